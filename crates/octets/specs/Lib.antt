@@ -1,0 +1,5 @@
+pub mod Pick
+pub mod Table
+pub mod Written
+pub mod Number
+pub mod Packet
