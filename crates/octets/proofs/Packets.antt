@@ -2,7 +2,7 @@
 use Prim.Native.Nat.{ℕ, zero, suc, _+_, _%_, _^_, _≤_, _<_}
 use mathlib.Core.Path.{_≡_, refl, sym, ap, _∙_}
 use mathlib.Core.Bool.{Bool, true, false, _&&_, _||_}
-use mathlib.Core.Logic.{_⊎_, inl, inr}
+use mathlib.Core.Logic.{_⊎_, inl, inr, ⊎-elim}
 use mathlib.Core.List.{List, [], _∷_, _++_}
 use lib.ListN.{length, getD, set, drop, replicate, length-replicate, getD-replicate}
 use lib.Dec.{T, leb, leb→le}
@@ -38,3 +38,94 @@ zeros-more n d h =
     ap (λ (l : List ℕ). set l n 0) (written-front d (zeros n) n (length-zeros n))
     ∙ fill-more n 0 d h
     ∙ sym (written-front d (zeros (n + 1)) (n + 1) (length-zeros (n + 1)))
+
+-- ---- what the tests of the fields' places say
+
+either : (a b : Bool) → T (a || b) → T a ⊎ T b
+either true b t = inl t
+either false b t = inr t
+
+-- the buffer after one field
+abbrev pub withField : Field → List ℕ → List ℕ
+withField f l = written l (f .at) (be (f .width) (f .value))
+
+module _ (f : Field) (fs : List Field) where
+  others : (n : ℕ) → T (within n (f ∷ fs)) → T (within n fs)
+  others n t = and-r (leb (f .at + f .width) n) (within n fs) t
+
+  fits : (n : ℕ) → T (within n (f ∷ fs)) → f .at + f .width ≤ n
+  fits n t = leb→le (f .at + f .width) n (and-l (leb (f .at + f .width) n) (within n fs) t)
+
+  fits-be : (n : ℕ) (l : List ℕ) → length l ≡ n → T (within n (f ∷ fs)) → f .at + length (be (f .width) (f .value)) ≤ length l
+  fits-be n l e t = omega (arith, fits n t, length-be (f .width) (f .value))
+
+  kept : (n : ℕ) (l : List ℕ) → length l ≡ n → T (within n (f ∷ fs)) → length (withField f l) ≡ n
+  kept n l e t = length-written l (f .at) (be (f .width) (f .value)) (fits-be n l e t) ∙ e
+
+-- ---- the packet at the front of a buffer
+
+-- fields within the front of a list leave what follows alone
+pub stored-front : (fs : List Field) (n : ℕ) (a b : List ℕ) → length a ≡ n → T (within n fs) → stored fs (a ++ b) ≡ stored fs a ++ b
+stored-front [] n a b e t = refl
+stored-front (f ∷ fs) n a b e t =
+    ap (stored fs) (written-append a b (f .at) (be (f .width) (f .value)) (fits-be f fs n a e t))
+    ∙ stored-front fs n (withField f a) b (kept f fs n a e t) (others f fs n t)
+
+length-stored : (fs : List Field) (n : ℕ) (l : List ℕ) → length l ≡ n → T (within n fs) → length (stored fs l) ≡ n
+length-stored [] n l e t = e
+length-stored (f ∷ fs) n l e t = length-stored fs n (withField f l) (kept f fs n l e t) (others f fs n t)
+
+pub length-packet : (n : ℕ) (fs : List Field) → T (within n fs) → length (packet n fs) ≡ n
+unfolding packet
+length-packet n fs t = length-stored fs n (zeros n) (length-zeros n) t
+
+-- fields stored in a cleared front are the packet written there
+pub packet-front : (n : ℕ) (fs : List Field) (d : List ℕ) → T (within n fs) → stored fs (written d 0 (zeros n)) ≡ written d 0 (packet n fs)
+unfolding packet
+packet-front n fs d t =
+    ap (stored fs) (written-front d (zeros n) n (length-zeros n))
+    ∙ stored-front fs n (zeros n) (drop n d) (length-zeros n) t
+    ∙ sym (written-front d (packet n fs) n (length-packet n fs t))
+
+-- ---- what is read back
+
+-- octets that no field touches are as they were
+stored-outside : (fs : List Field) (n : ℕ) (l : List ℕ) (i w k : ℕ) → length l ≡ n → T (within n fs) → T (outside i w fs) → k < w
+    → getD (stored fs l) (i + k) 0 ≡ getD l (i + k) 0
+stored-outside [] n l i w k e t o h = refl
+stored-outside (f ∷ fs) n l i w k e t o h =
+    let b = be (f .width) (f .value) in
+    let m : length b ≡ f .width = length-be (f .width) (f .value) in
+    let here = leb (i + w) (f .at) in
+    let there = leb (f .at + f .width) i in
+    stored-outside fs n (withField f l) i w k (kept f fs n l e t) (others f fs n t) (and-r (here || there) (outside i w fs) o) h
+    ∙ getD-written-out l (f .at) b (i + k) 0 (fits-be f fs n l e t)
+    (⊎-elim
+    (λ x. inl (omega (arith, leb→le (i + w) (f .at) x)))
+    (λ x. inr (omega (arith, leb→le (f .at + f .width) i x)))
+    (either here there (and-l (here || there) (outside i w fs) o)))
+
+-- each field of those stored, where no two overlap
+read-stored : (fs : List Field) (n : ℕ) (l : List ℕ) → length l ≡ n → T (within n fs) → T (apart fs)
+    → Each (λ f. beAt (f .width) (stored fs l) (f .at) ≡ f .value % 256 ^ f .width) fs
+read-stored [] n l e t a = tt
+read-stored (f ∷ fs) n l e t a =
+    let m = withField f l in
+    let s : length m ≡ n = kept f fs n l e t in
+    let u = others f fs n t in
+    let o = and-l (outside (f .at) (f .width) fs) (apart fs) a in (
+      beAt-ext (f .width) (stored fs m) m (f .at) (f .at) (λ k h. stored-outside fs n m (f .at) (f .width) k s u o h)
+          ∙ read-same (f .width) (f .value) l (f .at) (omega (arith, fits f fs n t)),
+      read-stored fs n m s u (and-r (outside (f .at) (f .width) fs) (apart fs) a),
+    )
+
+pub read-back : (n : ℕ) (fs : List Field) → T (within n fs) → T (apart fs)
+    → Each (λ f. beAt (f .width) (packet n fs) (f .at) ≡ f .value % 256 ^ f .width) fs
+unfolding packet
+read-back n fs t a = read-stored fs n (zeros n) (length-zeros n) t a
+
+-- an octet that no field names
+pub unnamed : (n : ℕ) (fs : List Field) (i : ℕ) → T (within n fs) → i < n → T (outside i 1 fs) → getD (packet n fs) i 0 ≡ 0
+unfolding packet
+unnamed n fs i t h o =
+    (rw add-zero at (stored-outside fs n (zeros n) i 1 0 (length-zeros n) t o (omega arith))) ∙ getD-zeros n i h

@@ -1,0 +1,49 @@
+-- `octets::get_u16` reads the number of 2 octets, each by its weight, as one law over the width has it. Assumes nothing.
+use native.Mathlib.Omega.{arith}
+use Rattle.octets.proofs.Numbers.{reads-be}
+use borrow.Author.Needs.{needs}
+use Rattle.octets.proofs.get_u16.Statement.{statement}
+use Rattle.octets.proofs.get_u16.Tie as tie
+
+shared-slice-read-wide : tie.Need-shared-slice-read-wide
+shared-slice-read-wide c = search needs
+
+wide-requires : tie.Need-wide-requires
+wide-requires c κs = search needs
+
+add-wide : tie.Need-add-wide
+add-wide c = search needs
+
+shared-slice-read-wide-2 : tie.Need-shared-slice-read-wide-2
+shared-slice-read-wide-2 c = search needs
+
+wide-requires-2 : tie.Need-wide-requires-2
+wide-requires-2 c κs = search needs
+
+mul-result : tie.Need-mul-result
+mul-result c = search needs
+
+add-result : tie.Need-add-result
+add-result c = search needs
+
+cast-result : tie.Need-cast-result
+cast-result c = search needs
+
+returns : tie.Need-returns
+returns c =
+    let a = c .before .before .before .before .before .args in
+    omega (arith, reads-be 1 (a .p .now) (a .at))
+
+pub get-u16-spec : {M : Type 1} → statement M
+get-u16-spec =
+    tie.close
+    (tie.spec
+    shared-slice-read-wide
+    wide-requires
+    add-wide
+    shared-slice-read-wide-2
+    wide-requires-2
+    mul-result
+    add-result
+    cast-result
+    returns)
