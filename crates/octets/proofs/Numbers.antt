@@ -6,7 +6,7 @@ use mathlib.Core.List.{List, [], _∷_}
 use lib.ListN.{length, getD, take, drop}
 use lib.Seq.{drop-cons}
 use lib.Arith.{digits-lt, digits-div, mod-mul}
-use native.Mathlib.Nat.{add-zero, zero-add, div-one, mod-lt, mod-one, mod-eq-of-lt, pow-succ', mul-assoc, mul-add-div-right, mul-add-mod-self-right, zero-lt-suc, one-le-pow}
+use native.Mathlib.Nat.{add-zero, zero-add, div-one, mod-one, mod-eq-of-lt, pow-succ', mul-assoc, mul-add-div-right, mul-add-mod-self-right, zero-lt-suc, one-le-pow}
 use native.Mathlib.Numerals.{add-one, one-add}
 use native.Mathlib.Omega.{arith}
 use Rattle.octets.specs.Written.{written}
@@ -60,7 +60,7 @@ reads-be w l at = ap (λ (n : ℕ). getD l at 0 * 256 ^ w + n) (reads-from w l a
 pub beAt-ext : (w : ℕ) (l m : List ℕ) (i j : ℕ) → ((k : ℕ) → k < w → getD l (i + k) 0 ≡ getD m (j + k) 0) → beAt w l i ≡ beAt w m j
 beAt-ext zero l m i j h = refl
 beAt-ext (suc w) l m i j h =
-    let e : getD l i 0 ≡ getD m j 0 = rw (add-zero, add-zero) at (h 0 (omega arith)) in
+    let e : getD l i 0 ≡ getD m j 0 = rw (add-zero i, add-zero j) at (h 0 (omega arith)) in
     rw (e, beAt-ext w l m (i + 1) (j + 1) (λ k b. rw (on i k, on j k) (h (suc k) (omega arith))))
   where
     on : (n k : ℕ) → n + 1 + k ≡ n + suc k

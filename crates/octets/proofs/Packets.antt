@@ -1,13 +1,13 @@
 -- Packets: runs of zeros, stored fields, the packet at the front of a buffer, and what is read back from it. Assumes nothing.
-use Prim.Native.Nat.{ℕ, zero, suc, _+_, _%_, _^_, _≤_, _<_}
+use Prim.Native.Nat.{ℕ, _+_, _%_, _^_, _≤_, _<_}
 use mathlib.Core.Path.{_≡_, refl, sym, ap, _∙_}
-use mathlib.Core.Bool.{Bool, true, false, _&&_, _||_}
+use mathlib.Core.Bool.{Bool, true, false, _||_}
 use mathlib.Core.Logic.{_⊎_, inl, inr, ⊎-elim}
 use mathlib.Core.List.{List, [], _∷_, _++_}
-use lib.ListN.{length, getD, set, drop, replicate, length-replicate, getD-replicate}
+use lib.ListN.{length, getD, set, drop, length-replicate, getD-replicate}
 use lib.Dec.{T, leb, leb→le}
 use lib.Ieee.Fits.{and-l, and-r}
-use borrow.Author.Fill.{fill-none, fill-more}
+use borrow.Author.Fill.{fill-more}
 use native.Mathlib.Nat.{add-zero}
 use native.Mathlib.Omega.{arith}
 use Rattle.octets.specs.Written.{written}
@@ -46,7 +46,7 @@ either true b t = inl t
 either false b t = inr t
 
 -- the buffer after one field
-abbrev pub withField : Field → List ℕ → List ℕ
+abbrev withField : Field → List ℕ → List ℕ
 withField f l = written l (f .at) (be (f .width) (f .value))
 
 module _ (f : Field) (fs : List Field) where

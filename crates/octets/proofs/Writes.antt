@@ -1,10 +1,10 @@
 -- What a writer leaves in a lent buffer: its length and its places, one writer after another, a run of stores, a lent part. Assumes nothing.
-use Prim.Native.Nat.{ℕ, zero, suc, _+_, _-_, _/_, _%_, _≤_, _<_}
-use mathlib.Core.Path.{_≡_, refl, sym, ap, _∙_}
+use Prim.Native.Nat.{ℕ, zero, suc, _+_, _-_, _%_, _≤_, _<_}
+use mathlib.Core.Path.{_≡_, sym, ap, _∙_}
 use mathlib.Core.Logic.{_⊎_, inl, inr, ⊎-elim}
 use mathlib.Core.List.{List, [], _∷_, _++_, append-assoc, append-nil}
 use lib.ListN.{length, getD, set, take, drop, length-append, length-drop, length-set, take-append-drop, drop-of-length-le}
-use lib.Seq.{length-take-le, take-all, take-suc-set, drop-set-lt, drop-drop, set-append-left, getD-set-same, getD-set-other}
+use lib.Seq.{take-all, take-suc-set, drop-set-lt, drop-drop, set-append-left, getD-set-same, getD-set-other}
 use native.Mathlib.Nat.{add-zero, zero-add, div-one, mod-eq-of-lt}
 use native.Mathlib.Numerals.{add-one}
 use native.Mathlib.Omega.{arith}
@@ -81,7 +81,7 @@ module _ {A : Type 0} where
 
   -- a writer within the front of a list leaves what follows alone
   pub written-append : (a b : List A) (at : ℕ) (out : List A) → at + length out ≤ length a → written (a ++ b) at out ≡ written a at out ++ b
-  written-append a b at [] h = rw (written-none, written-none)
+  written-append a b at [] h = rw (written-none (a ++ b) at, written-none a at)
   written-append a b at (x ∷ out) h =
       let l : at < length a = omega arith in
       written-cons (a ++ b) at x out (omega (arith, length-append a b))
