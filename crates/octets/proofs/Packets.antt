@@ -1,11 +1,11 @@
 -- Packets: runs of zeros, stored fields, the packet at the front of a buffer, and what is read back from it. Assumes nothing.
 use Prim.Native.Nat.{ℕ, _+_, _%_, _^_, _≤_, _<_}
 use mathlib.Core.Path.{_≡_, refl, sym, ap, _∙_}
-use mathlib.Core.Bool.{Bool, true, false, _||_}
+use mathlib.Core.Bool.{Bool, true, false, _&&_, _||_}
 use mathlib.Core.Logic.{_⊎_, inl, inr, ⊎-elim}
 use mathlib.Core.List.{List, [], _∷_, _++_}
-use lib.ListN.{length, getD, set, drop, length-replicate, getD-replicate}
-use lib.Dec.{T, leb, leb→le}
+use lib.ListN.{length, getD, set, drop, length-set, length-replicate, getD-replicate}
+use lib.Dec.{T, leb, eqb, leb→le, eqb→eq}
 use lib.Ieee.Fits.{and-l, and-r}
 use borrow.Author.Fill.{fill-more}
 use native.Mathlib.Nat.{add-zero}
@@ -13,7 +13,7 @@ use native.Mathlib.Omega.{arith}
 use Rattle.octets.specs.Written.{written}
 use Rattle.octets.specs.Number.{be, beAt}
 use Rattle.octets.specs.Packet.{zeros, Field, stored, packet, Each, within, outside, apart}
-use Rattle.octets.proofs.Writes.{written-front, written-append, length-written, getD-written-out}
+use Rattle.octets.proofs.Writes.{set-be, written-front, written-append, length-written, getD-written-out}
 use Rattle.octets.proofs.Numbers.{length-be, beAt-ext, read-same}
 
 -- ---- zeros
@@ -61,6 +61,25 @@ module _ (f : Field) (fs : List Field) where
 
   kept : (n : ℕ) (l : List ℕ) → length l ≡ n → T (within n (f ∷ fs)) → length (withField f l) ≡ n
   kept n l e t = length-written l (f .at) (be (f .width) (f .value)) (fits-be n l e t) ∙ e
+
+-- ---- fields of one octet, as code stores them
+
+abbrev pub singly : List Field → List ℕ → List ℕ
+singly [] l = l
+singly (f ∷ fs) l = singly fs (set l (f .at) (f .value))
+
+-- every field is one octet wide
+abbrev pub single : List Field → Bool
+single [] = true
+single (f ∷ fs) = eqb (f .width) 1 && single fs
+
+pub singly-stored : (fs : List Field) (n : ℕ) (l : List ℕ) → n ≤ length l → T (within n fs) → T (single fs) → Each (λ f. f .value < 256) fs
+    → singly fs l ≡ stored fs l
+singly-stored [] n l h t o v = refl
+singly-stored (f ∷ fs) n l h t o v =
+    let w : f .width ≡ 1 = eqb→eq (f .width) 1 (and-l (eqb (f .width) 1) (single fs) o) in
+    singly-stored fs n (set l (f .at) (f .value)) (rw length-set h) (others f fs n t) (and-r (eqb (f .width) 1) (single fs) o) (v .1)
+    ∙ ap (stored fs) (set-be l (f .at) (f .value) (omega (arith, fits f fs n t)) (v .0) ∙ ap (λ (k : ℕ). written l (f .at) (be k (f .value))) (sym w))
 
 -- ---- the packet at the front of a buffer
 

@@ -29,8 +29,9 @@ stored (f ∷ fs) l = stored fs (written l (f .at) (be (f .width) (f .value)))
 unfoldable pub packet : ℕ → List Field → List ℕ
 packet n fs = stored fs (zeros n)
 
--- ---- what is said of every field, and tests of the fields' places that compute where the places are numerals
+-- ---- what a statement says of the fields: each test of their places computes where the places are numerals
 
+-- P holds of every field
 abbrev pub Each : (Field → Type 0) → List Field → Type 0
 Each P [] = Unit {0}
 Each P (f ∷ fs) = P f × Each P fs
