@@ -1,0 +1,13 @@
+pub mod Orders
+pub mod Decode
+pub mod Splits
+pub mod Wholes
+pub mod Floors
+pub mod Nanos
+pub mod Signs
+pub mod Unique
+pub mod Rounded
+pub mod Bounds
+pub mod Fractions
+pub mod Values
+pub mod Limits

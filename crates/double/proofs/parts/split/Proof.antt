@@ -1,0 +1,66 @@
+use mathlib.Core.Path.{sym, subst, refl}
+use native.Mathlib.Omega.{arith}
+use borrow.Author.Needs.{needs}
+use borrow.Author.Tests.{ne-eqb, eq-eqb}
+use Rattle.double.proofs.Splits.{split-tiny, split-mid, split-high, split-over, unit-is, unit-pos}
+use Rattle.double.proofs.parts.split.Statement.{statement}
+use Rattle.double.proofs.parts.split.Tie as tie
+
+apart-requires : tie.Need-apart-requires
+apart-requires c κs = search needs
+
+returns : tie.Need-returns
+returns c =
+    let a = c .before .before .apart in
+    split-tiny (c .before .before .before .args .x) (a .result .negative) (a .result .digits) (a .result .scale) 0 (a .ensures) (omega arith) (omega arith) (sym (eq-eqb (a .result .digits) 0 (c .if2 .taken))) refl
+
+returns-2 : tie.Need-returns-2
+returns-2 c =
+    let a = c .before .before .apart in
+    split-tiny (c .before .before .before .args .x) (a .result .negative) (a .result .digits) (a .result .scale) 1 (a .ensures) (omega arith) (omega arith) (sym (ne-eqb (a .result .digits) 0 (c .if2 .left))) refl
+
+sub-u : tie.Need-sub-u
+sub-u c = search needs
+
+shl-u : tie.Need-shl-u
+shl-u c = search needs
+
+div-t8 : tie.Need-div-t8
+div-t8 c = unit-pos (c .before .before .apart .result .scale) (omega arith) (omega arith)
+
+rem-t9 : tie.Need-rem-t9
+rem-t9 c = unit-pos (c .before .before .apart .result .scale) (omega arith) (omega arith)
+
+returns-3 : tie.Need-returns-3
+returns-3 c =
+    let a = c .before .before .apart in
+    split-mid (c .before .before .before .args .x) (a .result .negative) (a .result .digits) (a .result .scale) _ (a .ensures) (omega arith) (unit-is (a .result .scale) (omega arith) (omega arith))
+
+shl-t11 : tie.Need-shl-t11
+shl-t11 c = search needs
+
+returns-4 : tie.Need-returns-4
+returns-4 c =
+    let a = c .before .before .before .apart in
+    split-high (c .before .before .before .before .args .x) (a .result .negative) (a .result .digits) (a .result .scale) (a .ensures) (omega arith) (omega arith)
+
+returns-5 : tie.Need-returns-5
+returns-5 c =
+    let a = c .before .before .before .apart in
+    split-over (c .before .before .before .before .args .x) (a .result .negative) (a .result .digits) (a .result .scale) (a .ensures) (omega arith)
+
+pub split-spec : {M : Type 1} → statement M
+split-spec =
+    tie.close
+    (tie.spec
+    apart-requires
+    returns
+    returns-2
+    sub-u
+    shl-u
+    div-t8
+    rem-t9
+    returns-3
+    shl-t11
+    returns-4
+    returns-5)

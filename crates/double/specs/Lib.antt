@@ -1,0 +1,4 @@
+pub mod Whole
+pub mod Parts
+pub mod Seconds
+pub mod Stream

@@ -1,0 +1,6 @@
+// Doubles as Rust reads them: whether one is finite or whole, the whole numbers near it, seconds and nanoseconds, and
+// what a stream's elapsed time and rate give. Every public function is total: NaN, infinities, negatives, subnormals.
+mod parts;
+pub mod stream;
+pub mod time;
+pub mod whole;

@@ -1,0 +1,49 @@
+// What a stream's elapsed time and rate give: 01, Numbers in the stream.
+ghost use mathlib.Core.Path.{_≡_};
+ghost use Rattle.double.specs.Stream.{jumpLimit, restartMissing, accountTime, coveredTime, belowHalf};
+use super::time::nanoseconds;
+use super::time::seconds;
+use super::whole::ceil_u64;
+use super::whole::floor_u64;
+use super::whole::round;
+
+// The most datagrams that can have been lost in ns nanoseconds: what the radio sent, with 1% for clock skew, and one
+// socket buffer. The Rust's `plausible_lost_datagrams`.
+pub fn jump_limit(ns: u64, rate: f64) -> u64
+    ensures { λ r. ⌜ r ≡ jumpLimit ns rate ⌝ }
+{
+    let n = ceil_u64(seconds(ns) * (rate / 238.0) * 1.01);
+    if n < 18446744073709543424 {
+        n + 8192
+    } else {
+        18446744073709551615
+    }
+}
+
+// What a restart misses after ns nanoseconds: the samples of that time, without the datagram that came.
+pub fn restart_missing(ns: u64, rate: f64) -> u64
+    ensures { λ r. ⌜ r ≡ restartMissing ns rate ⌝ }
+{
+    floor_u64(round(seconds(ns) * rate) - 238.0)
+}
+
+// The nanoseconds that n samples take.
+pub fn account_time(n: u64, rate: f64) -> u64
+    ensures { λ r. ⌜ r ≡ accountTime n rate ⌝ }
+{
+    nanoseconds(std::num::nearest_u64_to_f64(n) / rate)
+}
+
+// The nanoseconds that n datagrams cover.
+pub fn covered_time(n: u64, rate: f64) -> u64
+    ensures { λ r. ⌜ r ≡ coveredTime n rate ⌝ }
+{
+    nanoseconds(std::num::nearest_u64_to_f64(n) * 238.0 / rate)
+}
+
+// Whether n missing samples are below half the rate.
+pub fn below_half(n: u64, rate: f64) -> bool
+    ensures { λ r. ⌜ r ≡ belowHalf n rate ⌝ }
+{
+    std::num::nearest_u64_to_f64(n) < rate / 2.0
+}

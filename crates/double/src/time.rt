@@ -1,0 +1,74 @@
+// Nanoseconds and a double's seconds, as Rust's `Duration` turns one into the other.
+ghost use mathlib.Core.Path.{_≡_};
+ghost use Prim.Native.Nat.{_%_, _<_, _≤_, _^_};
+ghost use Rattle.double.specs.Seconds.{secondsOf, nanosOf, toEven, nanosBy};
+use super::parts::apart;
+use super::parts::one_more;
+use super::whole::is_finite;
+
+// Rust's `as_secs_f64`: whole seconds plus nanoseconds / 1e9.
+pub fn seconds(ns: u64) -> f64
+    ensures { λ r. ⌜ r ≡ secondsOf ns ⌝ }
+{
+    ((ns / 1000000000) as f64) + ((ns % 1000000000) as f64) / 1000000000.0
+}
+
+// q, or one more: q is the whole part, and (t + s / 2^26) / u is left.
+fn to_even(q: u64, t: u64, u: u64, s: u64) -> u64
+    requires { ⌜ (t < 2 ^ 60) × (s < 2 ^ 26) × (u % 2 ≡ 0) ⌝ }
+    ensures { λ r. ⌜ r ≡ toEven q t u s ⌝ }
+{
+    if t * 2 < u {
+        return q;
+    }
+    if t * 2 > u {
+        return one_more(q);
+    }
+    if s > 0 {
+        return one_more(q);
+    }
+    if q % 2 == 0 {
+        return q;
+    }
+    one_more(q)
+}
+
+// The nanoseconds of d * 2^k / 2^1074 seconds. The product d * 1e9 has 83 bits: it is kept as b * 2^26 + r.
+fn nanos_of(d: u64, k: u64) -> u64
+    requires { ⌜ (d < 2 ^ 53) × (1074 ≤ k → 2 ^ 52 ≤ d) ⌝ }
+    ensures { λ r. ⌜ r ≡ nanosBy d k ⌝ }
+{
+    if k < 990 {
+        return 0;
+    }
+    if k >= 1074 {
+        return 18446744073709551615;
+    }
+    let a = d % 67108864 * 1000000000;
+    let b = d / 67108864 * 1000000000 + a / 67108864;
+    let r = a % 67108864;
+    if k < 1048 {
+        let u: u64 = 1 << (1048 - k);
+        return to_even(b / u, b % u, u, r);
+    }
+    let u: u64 = 1 << (1074 - k);
+    if b / 274877906944 >= u {
+        return 18446744073709551615;
+    }
+    to_even(b * (67108864 / u) + r / u, r % u, u, 0)
+}
+
+// Rust's `Duration::from_secs_f64` in nanoseconds, ties to even, from the double's exact value. Where that panics, 0 for a
+// NaN and what is negative, and the largest u64 for what is past it.
+pub fn nanoseconds(x: f64) -> u64
+    ensures { λ r. ⌜ r ≡ nanosOf x ⌝ }
+{
+    if x > 0.0 {
+        if is_finite(x) {
+            let p = apart(x);
+            return nanos_of(p.digits, p.scale);
+        }
+        return 18446744073709551615;
+    }
+    0
+}
