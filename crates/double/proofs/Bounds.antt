@@ -4,15 +4,17 @@ use mathlib.Core.Logic.{_⊎_, inl, inr}
 use Prim.Native.Nat.{ℕ, zero, suc, _+_, _-_, _*_, _/_, _%_, _^_, _≤_, _<_, min, compare, Ordering, Ordering·lt, Ordering·eq, Ordering·gt}
 use native.Mathlib.Nat.{le-trans, le-of-eq, le-of-lt, lt-of-lt-of-le, mul-one, mul-assoc, mul-right-comm, mul-pos, add-mul, mul-le-mul, mul-le-mul-right, le-of-mul-le-mul-right, add-le-add, mul-mul-mul-comm, zero-lt-suc}
 use native.Mathlib.Omega.{arith}
-use lib.Pow.{pow-pos}
+use borrow.Author.Tests.{ne-eqb}
 use mathlib.Core.Bool.{Bool, true, false, cond, true≢false, _||_, _&&_}
 use lib.IntN.{ℤ, pos}
 use lib.Dec.{T, ltb, eqb, ltb→lt, eqb→eq}
 use lib.Ieee.{Float, nan, inf, fin, binary64, up, down, round, add, mul, div, le, ofInt}
-use lib.Ieee.Fits.{down-pos, and-l}
+use lib.Ieee.Fits.{up-pos, down-pos, and-l}
 use lib.Ieee.Exact.{HasValue}
 use lib.Ieee.Back.{round-whole}
 use lib.Ieee.Order.{round-mono}
+use lib.Ieee.Positive.{num, den, positive}
+use Rattle.double.proofs.Plain.{Plain, plain-two, of-positive}
 use Rattle.double.proofs.Signs.{minus?, round-sign}
 
 -- b is a double
@@ -62,48 +64,60 @@ pub of-nat-up-to : (n b : ℕ) → Exact b → n ≤ b → UpTo (ofInt binary64 
 unfolding ofInt
 of-nat-up-to n b B h = round-up-to n 1 b (zero-lt-suc 0) B (le-trans h (le-of-eq (sym (mul-one b))))
 
+pub plain-up-to : (x : Float) (b : ℕ) → UpTo x b → Plain x
+plain-up-to nan b p = p
+plain-up-to (inf s) b p = p
+plain-up-to (fin s m e) b p = p .0
+
 pub add-up-to : (x y : Float) (b c : ℕ) → Exact (b + c) → UpTo x b → UpTo y c → UpTo (add binary64 x y) (b + c)
 unfolding add
-add-up-to nan y b c B p q = absurd p
-add-up-to (inf s) y b c B p q = absurd p
-add-up-to (fin s m e) nan b c B p q = absurd q
-add-up-to (fin s m e) (inf t) b c B p q = absurd q
-add-up-to (fin true m e) (fin t n d) b c B p q = absurd (true≢false (p .0))
-add-up-to (fin false m e) (fin true n d) b c B p q = absurd (true≢false (q .0))
-add-up-to (fin false m e) (fin false n d) b c B p q =
-    round-up-to (m * up e * down d + n * up d * down e) (down e * down d) (b + c) (mul-pos (down-pos e) (down-pos d)) B
-    (le-trans (add-le-add (mul-le-mul-right (down d) (p .1)) (mul-le-mul-right (down e) (q .1)))
-    (le-of-eq (ap (λ (z : ℕ). z + c * down d * down e) (mul-assoc b (down e) (down d)) ∙ ap (λ (z : ℕ). b * (down e * down d) + z) (mul-right-comm c (down d) (down e) ∙ mul-assoc c (down e) (down d)) ∙ sym (add-mul b c (down e * down d)))))
+add-up-to x y b c B p q = plain-two (λ (x y : Float). UpTo x b → UpTo y c → UpTo (add binary64 x y) (b + c)) bounded x y (plain-up-to x b p) (plain-up-to y c q) p q
+  where
+    bounded : (m : ℕ) (e : ℤ) (n : ℕ) (d : ℤ) → UpTo (fin false m e) b → UpTo (fin false n d) c → UpTo (add binary64 (fin false m e) (fin false n d)) (b + c)
+    bounded m e n d p q =
+        round-up-to (m * up e * down d + n * up d * down e) (down e * down d) (b + c) (mul-pos (down-pos e) (down-pos d)) B
+        (le-trans (add-le-add (mul-le-mul-right (down d) (p .1)) (mul-le-mul-right (down e) (q .1)))
+        (le-of-eq (ap (λ (z : ℕ). z + c * down d * down e) (mul-assoc b (down e) (down d)) ∙ ap (λ (z : ℕ). b * (down e * down d) + z) (mul-right-comm c (down d) (down e) ∙ mul-assoc c (down e) (down d)) ∙ sym (add-mul b c (down e * down d)))))
 
 pub mul-up-to : (x y : Float) (b c : ℕ) → Exact (b * c) → UpTo x b → UpTo y c → UpTo (mul binary64 x y) (b * c)
 unfolding mul
-mul-up-to nan y b c B p q = absurd p
-mul-up-to (inf s) y b c B p q = absurd p
-mul-up-to (fin s m e) nan b c B p q = absurd q
-mul-up-to (fin s m e) (inf t) b c B p q = absurd q
-mul-up-to (fin true m e) (fin t n d) b c B p q = absurd (true≢false (p .0))
-mul-up-to (fin false m e) (fin true n d) b c B p q = absurd (true≢false (q .0))
-mul-up-to (fin false m e) (fin false n d) b c B p q =
-    round-up-to (m * up e * (n * up d)) (down e * down d) (b * c) (mul-pos (down-pos e) (down-pos d)) B
-    (le-trans (mul-le-mul (p .1) (q .1)) (le-of-eq (mul-mul-mul-comm b (down e) c (down d))))
+mul-up-to x y b c B p q = plain-two (λ (x y : Float). UpTo x b → UpTo y c → UpTo (mul binary64 x y) (b * c)) bounded x y (plain-up-to x b p) (plain-up-to y c q) p q
+  where
+    bounded : (m : ℕ) (e : ℤ) (n : ℕ) (d : ℤ) → UpTo (fin false m e) b → UpTo (fin false n d) c → UpTo (mul binary64 (fin false m e) (fin false n d)) (b * c)
+    bounded m e n d p q =
+        round-up-to (m * up e * (n * up d)) (down e * down d) (b * c) (mul-pos (down-pos e) (down-pos d)) B
+        (le-trans (mul-le-mul (p .1) (q .1)) (le-of-eq (mul-mul-mul-comm b (down e) c (down d))))
 
--- a quotient of two that are not negative, the second not 0
-pub div-at : (m : ℕ) (e : ℤ) (n : ℕ) (d : ℤ) → eqb n 0 ≡ false → div binary64 (fin false m e) (fin false n d) ≡ round binary64 false (m * up e * down d) (n * up d * down e)
+-- a quotient by what is above 0
+pub div-at : (m : ℕ) (e : ℤ) (n : ℕ) (d : ℤ) → 0 < n → div binary64 (fin false m e) (fin false n d) ≡ round binary64 false (m * up e * down d) (n * up d * down e)
 unfolding div
-div-at m e n d z = ap (λ (t : Bool). cond t (cond (eqb m 0) nan (inf false)) (round binary64 false (m * up e * down d) (n * up d * down e))) z
+div-at m e n d N = ap (λ (t : Bool). cond t (cond (eqb m 0) nan (inf false)) (round binary64 false (m * up e * down d) (n * up d * down e))) (ne-eqb n 0 (λ z. absurd (omega arith)))
 
--- by a double that is the whole number n * 2 ^ k
-pub div-up-to : (x : Float) (n k b : ℕ) → eqb n 0 ≡ false → 0 < n → Exact b → UpTo x (b * (n * 2 ^ k)) → UpTo (div binary64 x (fin false n (pos k))) b
-div-up-to nan n k b z N B p = absurd p
-div-up-to (inf s) n k b z N B p = absurd p
-div-up-to (fin true m e) n k b z N B p = absurd (true≢false (p .0))
-div-up-to (fin false m e) n k b z N B p =
-    subst (λ (y : Float). UpTo y b) (sym (div-at m e n (pos k) z))
-    (round-up-to (m * up e * 1) (n * 2 ^ k * down e) b (mul-pos (mul-pos N (pow-pos k)) (down-pos e)) B
-    (le-trans (le-of-eq (mul-one (m * up e))) (le-trans (p .1) (le-of-eq (mul-assoc b (n * 2 ^ k) (down e))))))
+-- x at most b times y
+pub div-up-to : (x y : Float) (b c : ℕ) → T (positive y) → Exact b → UpTo x c → c * den y ≤ b * num y → UpTo (div binary64 x y) b
+div-up-to x y b c p B u h =
+    plain-two (λ (x y : Float). T (positive y) → UpTo x c → c * den y ≤ b * num y → UpTo (div binary64 x y) b) bounded x y (plain-up-to x c u) (of-positive y p) p u h
+  where
+    bounded : (m : ℕ) (e : ℤ) (n : ℕ) (d : ℤ) → T (positive (fin false n d)) → UpTo (fin false m e) c → c * down d ≤ b * (n * up d) → UpTo (div binary64 (fin false m e) (fin false n d)) b
+    bounded m e n d p u h =
+        let N : 0 < n = ltb→lt 0 n p in
+        subst (λ (y : Float). UpTo y b) (sym (div-at m e n d N))
+        (round-up-to (m * up e * down d) (n * up d * down e) b (mul-pos (mul-pos N (up-pos d)) (down-pos e)) B
+        (le-trans (mul-le-mul-right (down d) (u .1)) (le-trans (le-of-eq (mul-right-comm c (down e) (down d))) (le-trans (mul-le-mul-right (down e) h) (le-of-eq (mul-assoc b (n * up d) (down e)))))))
 
 -- a lower bound serves a higher one
 pub up-to-more : (x : Float) (b c : ℕ) → b ≤ c → UpTo x b → UpTo x c
 up-to-more nan b c h p = p
 up-to-more (inf s) b c h p = p
 up-to-more (fin s m e) b c h p = (p .0, le-trans (p .1) (mul-le-mul-right (down e) h))
+
+pub at-most : (x : Float) (b : ℕ) → UpTo x b → num x ≤ b * den x
+at-most nan b p = absurd p
+at-most (inf s) b p = absurd p
+at-most (fin s m e) b p = p .1
+
+-- a whole number at most b, as a rate is
+pub whole-up-to : (x : Float) (r b : ℕ) → HasValue x false r 1 → r ≤ b → UpTo x b
+whole-up-to nan r b v h = absurd v
+whole-up-to (inf s) r b v h = absurd v
+whole-up-to (fin s m e) r b v h = (v .0, le-trans (le-of-eq (sym (mul-one (m * up e)) ∙ v .1)) (mul-le-mul-right (down e) h))

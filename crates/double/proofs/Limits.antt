@@ -1,81 +1,73 @@
 -- What elapsed time and rate give, over 01's ranges: nothing is capped there, and the whole-number formulas hold. The rate is a parameter. Assumes nothing.
 use mathlib.Core.Path.{_≡_, refl, sym, ap, _∙_, subst}
 use Prim.Native.Nat.{ℕ, _+_, _-_, _*_, _/_, _%_, _^_, _≤_, _<_, min}
-use native.Mathlib.Nat.{le-trans, le-of-eq, mul-one, mul-right-comm, mul-pos, zero-lt-suc}
+use native.Mathlib.Nat.{le-trans, le-of-eq, mul-one, mul-comm, mul-assoc, mul-pos, mul-le-mul-left, zero-lt-suc}
 use native.Mathlib.Omega.{arith}
 use mathlib.Core.Bool.{Bool, true, false, true≢false}
 use lib.IntN.{ℤ, pos}
-use lib.Dec.{ltb, lit≤}
+use borrow.Author.Tests.{ltb-true, ltb-false}
+use lib.Dec.{T, ltb, lit≤}
 use lib.Ieee.{Float, nan, inf, fin, binary64, up, down, round, add, sub, mul, div, ofInt}
 use lib.Ieee.Fits.{down-pos}
 use lib.Ieee.Exact.{HasValue}
 use lib.Ieee.Back.{round-whole}
 use lib.Ieee.Scale.{round-same}
-use lib.Ieee.Positive.{num, den}
-use Rattle.double.specs.Whole.{most, natOf, floorOf, ceilAt, ceilOf, roundAt, rounded}
+use lib.Ieee.Positive.{num, den, den-pos, positive}
+use Rattle.double.specs.Whole.{most, natOf, floorAt, floorOf, ceilAt, ceilOf, roundAt, rounded}
 use Rattle.double.specs.Seconds.{secondsOf, giga, nanosAt, nanosOf}
-use Rattle.double.specs.Stream.{perDatagram, slack, two, plausible, jumpLimit, restartMissing, belowHalf}
-use Rattle.double.proofs.Bounds.{UpTo, exact-small, of-nat-up-to, add-up-to, mul-up-to, div-up-to, up-to-more, div-at}
+use Rattle.double.specs.Stream.{perDatagram, slack, two, plausible, jumpLimit, restartMissing, accountTime, coveredTime, belowHalf}
+use Rattle.double.proofs.Bounds.{Exact, UpTo, exact-small, of-nat-up-to, add-up-to, mul-up-to, div-up-to, up-to-more, div-at, at-most, plain-up-to}
+use Rattle.double.proofs.Plain.{Plain, plain, of-value}
 use Rattle.double.proofs.Floors.{exact64}
 use Rattle.double.proofs.Fractions.{ceil-le, round-le}
 use Rattle.double.proofs.Signs.{round-sign}
 use Rattle.double.proofs.Values.{floor-of-whole, nat-minus, sub-ge, sub-lt, lt-of-values}
 
--- a whole number near what is finite and not negative is not cut short where it is a u64
-nat-plain : (g : ℕ → ℕ → ℕ) (x : Float) (b : ℕ) → UpTo x b → g (num x) (den x) ≤ most → natOf g x ≡ g (num x) (den x)
+-- a whole number near what is finite and not negative, cut short at the largest u64
+nat-plain : (g : ℕ → ℕ → ℕ) (x : Float) → Plain x → natOf g x ≡ min (g (num x) (den x)) most
 unfolding natOf
-nat-plain g nan b p h = absurd p
-nat-plain g (inf s) b p h = absurd p
-nat-plain g (fin true m e) b p h = absurd (true≢false (p .0))
-nat-plain g (fin false m e) b p h = least (g (m * up e) (down e)) h
-  where
-    least : (v : ℕ) → v ≤ most → min v most ≡ v
-    least v h = omega arith
-
--- and is at most b where b bounds it
-module _ (x : Float) (b : ℕ) (p : UpTo x b) where
-  at-most : num x ≤ b * den x
-  at-most = go x p
-    where
-      go : (x : Float) → UpTo x b → num x ≤ b * den x
-      go nan p = absurd p
-      go (inf s) p = absurd p
-      go (fin s m e) p = p .1
+nat-plain g x p = plain (λ (x : Float). natOf g x ≡ min (g (num x) (den x)) most) (λ m e. refl) x p
 
 -- ---- seconds
+pub fraction-up-to : (ns : ℕ) → UpTo (div binary64 (ofInt binary64 (pos (ns % 1000000000))) giga) 1
+fraction-up-to ns =
+    div-up-to (ofInt binary64 (pos (ns % 1000000000))) giga 1 1000000000 tt (exact-small 1 (lit≤ tt))
+    (of-nat-up-to (ns % 1000000000) 1000000000 (exact-small 1000000000 (lit≤ tt)) (below ns)) (lit≤ tt)
+  where
+    below : (ns : ℕ) → ns % 1000000000 ≤ 1000000000
+    below ns = omega arith
+
 pub seconds-up-to : (ns : ℕ) → ns < 2 ^ 64 → UpTo (secondsOf ns) 18446744074
 unfolding secondsOf
 seconds-up-to ns h =
     add-up-to (ofInt binary64 (pos (ns / 1000000000))) (div binary64 (ofInt binary64 (pos (ns % 1000000000))) giga) 18446744073 1 (exact-small 18446744074 (lit≤ tt))
     (of-nat-up-to (ns / 1000000000) 18446744073 (exact-small 18446744073 (lit≤ tt)) (whole ns h))
-    (div-up-to (ofInt binary64 (pos (ns % 1000000000))) 1953125 9 1 refl (zero-lt-suc 1953124) (exact-small 1 (lit≤ tt))
-    (of-nat-up-to (ns % 1000000000) 1000000000 (exact-small 1000000000 (lit≤ tt)) (rest ns)))
+    (fraction-up-to ns)
   where
     whole : (ns : ℕ) → ns < 18446744073709551616 → ns / 1000000000 ≤ 18446744073
     whole ns h = omega arith
 
-    rest : (ns : ℕ) → ns % 1000000000 ≤ 1000000000
-    rest ns = omega arith
-
 -- ---- the jump limit, at every rate up to 2 ^ 21 samples a second
+pub rate-up-to : (rate : Float) → UpTo rate 2097152 → UpTo (div binary64 rate perDatagram) 8812
+rate-up-to rate r = div-up-to rate perDatagram 8812 2097152 tt (exact-small 8812 (lit≤ tt)) r (lit≤ tt)
+
 module _ (ns : ℕ) (rate : Float) (h : ns < 2 ^ 64) (r : UpTo rate 2097152) where
+  pub product-up-to : UpTo (mul binary64 (secondsOf ns) (div binary64 rate perDatagram)) 162552708780088
+  product-up-to = mul-up-to (secondsOf ns) (div binary64 rate perDatagram) 18446744074 8812 (exact-small 162552708780088 (lit≤ tt)) (seconds-up-to ns h) (rate-up-to rate r)
+
   plausible-up-to : UpTo (plausible ns rate) 325105417560176
   unfolding plausible
-  plausible-up-to =
-      mul-up-to (mul binary64 (secondsOf ns) (div binary64 rate perDatagram)) slack 162552708780088 2 (exact-small 325105417560176 (lit≤ tt))
-      (mul-up-to (secondsOf ns) (div binary64 rate perDatagram) 18446744074 8812 (exact-small 162552708780088 (lit≤ tt)) (seconds-up-to ns h)
-      (div-up-to rate 119 1 8812 refl (zero-lt-suc 118) (exact-small 8812 (lit≤ tt)) (up-to-more rate 2097152 2097256 (lit≤ tt) r)))
-      (refl, lit≤ tt)
+  plausible-up-to = mul-up-to (mul binary64 (secondsOf ns) (div binary64 rate perDatagram)) slack 162552708780088 2 (exact-small 325105417560176 (lit≤ tt)) product-up-to (refl, lit≤ tt)
 
   ceil-small : ceilAt (num (plausible ns rate)) (den (plausible ns rate)) ≤ 325105417560176
-  ceil-small = ceil-le (num (plausible ns rate)) (den (plausible ns rate)) 325105417560176 (lib.Ieee.Positive.den-pos (plausible ns rate)) (at-most (plausible ns rate) 325105417560176 plausible-up-to)
+  ceil-small = ceil-le (num (plausible ns rate)) (den (plausible ns rate)) 325105417560176 (den-pos (plausible ns rate)) (at-most (plausible ns rate) 325105417560176 plausible-up-to)
 
   -- the formula as it stands
   pub jump-plain : jumpLimit ns rate ≡ ceilAt (num (plausible ns rate)) (den (plausible ns rate)) + 8192
   unfolding jumpLimit
-  jump-plain = joined (ceilOf (plausible ns rate)) (ceilAt (num (plausible ns rate)) (den (plausible ns rate))) (nat-plain ceilAt (plausible ns rate) 325105417560176 plausible-up-to (le-trans ceil-small (lit≤ tt))) ceil-small
+  jump-plain = joined (ceilOf (plausible ns rate)) (ceilAt (num (plausible ns rate)) (den (plausible ns rate))) (nat-plain ceilAt (plausible ns rate) (plain-up-to (plausible ns rate) 325105417560176 plausible-up-to)) ceil-small
     where
-      joined : (v w : ℕ) → v ≡ w → w ≤ 325105417560176 → min (v + 8192) most ≡ w + 8192
+      joined : (v w : ℕ) → v ≡ min w most → w ≤ 325105417560176 → min (v + 8192) most ≡ w + 8192
       joined v w e h = omega arith
 
   pub jump-up-to : jumpLimit ns rate ≤ 325105417568368
@@ -83,3 +75,86 @@ module _ (ns : ℕ) (rate : Float) (h : ns < 2 ^ 64) (r : UpTo rate 2097152) whe
     where
       more : (v : ℕ) → v ≤ 325105417560176 → v + 8192 ≤ 325105417568368
       more v h = omega arith
+
+-- ---- a restart's missing: the whole number less 238, while it is below 2 ^ 53, as at every rate up to 488,281 samples a second
+less-of : (n : ℕ) → n ≤ 2 ^ 53 → floorOf (sub binary64 (round binary64 false n 1) perDatagram) ≡ n - 238
+less-of n h = go (ltb n 238) refl
+  where
+    nothing : n < 238 → 0 ≡ n - 238
+    nothing l = omega arith
+
+    go : (t : Bool) → ltb n 238 ≡ t → floorOf (sub binary64 (round binary64 false n 1) perDatagram) ≡ n - 238
+    go true l =
+        ap floorOf (sub-lt binary64 (round binary64 false n 1) perDatagram n 238 (exact-small n h) (refl, refl) (ltb-true n 238 l))
+        ∙ nat-minus floorAt (round binary64 true (238 - n) 1) (round-sign binary64 true (238 - n) 1)
+        ∙ nothing (ltb-true n 238 l)
+    go false l =
+        ap floorOf (sub-ge binary64 (round binary64 false n 1) perDatagram n 238 (exact-small n h) (refl, refl) (ltb-false n 238 l))
+        ∙ floor-of-whole (round binary64 false (n - 238) 1) (n - 238) (omega arith) (exact-small (n - 238) (omega arith))
+
+less-datagram : (x : Float) → UpTo x (2 ^ 53) → floorOf (sub binary64 (rounded x) perDatagram) ≡ roundAt (num x) (den x) - 238
+unfolding rounded
+less-datagram x p =
+    plain (λ (x : Float). UpTo x (2 ^ 53) → floorOf (sub binary64 (rounded x) perDatagram) ≡ roundAt (num x) (den x) - 238)
+    (λ m e p. less-of (roundAt (m * up e) (down e)) (round-le (m * up e) (down e) (2 ^ 53) (down-pos e) (p .1))) x (plain-up-to x (2 ^ 53) p) p
+
+module _ (ns : ℕ) (rate : Float) (h : ns < 2 ^ 64) (r : UpTo rate 488281) where
+  pub samples-up-to : UpTo (mul binary64 (secondsOf ns) rate) 9007194643196794
+  samples-up-to = mul-up-to (secondsOf ns) rate 18446744074 488281 (exact-small 9007194643196794 (lit≤ tt)) (seconds-up-to ns h) r
+
+  pub restart-plain : restartMissing ns rate ≡ roundAt (num (mul binary64 (secondsOf ns) rate)) (den (mul binary64 (secondsOf ns) rate)) - 238
+  unfolding restartMissing
+  restart-plain = less-datagram (mul binary64 (secondsOf ns) rate) (up-to-more (mul binary64 (secondsOf ns) rate) 9007194643196794 9007199254740992 (lit≤ tt) samples-up-to)
+
+-- ---- below half the rate: in whole numbers, at a whole rate
+pub half-plain : (n r : ℕ) (rate : Float) → n ≤ 2 ^ 53 → r < 2 ^ 53 → HasValue rate false r 1 → belowHalf n rate ≡ ltb (n * 2) r
+unfolding belowHalf ofInt
+half-plain n r rate N R v =
+    lt-of-values (ofInt binary64 (pos n)) (div binary64 rate two) n 1 r 2 (zero-lt-suc 0) (zero-lt-suc 1) (round-whole binary64 false n N) (halved rate v)
+    ∙ ap (ltb (n * 2)) (mul-one r)
+  where
+    crossed : (r d : ℕ) → r * d * 2 ≡ r * (2 * d)
+    crossed r d = mul-assoc r d 2 ∙ ap (λ (z : ℕ). r * z) (mul-comm d 2)
+
+    halved-fin : (m : ℕ) (e : ℤ) → HasValue (fin false m e) false r 1 → HasValue (div binary64 (fin false m e) two) false r 2
+    halved-fin m e v =
+        subst (λ (y : Float). HasValue y false r 2)
+        (sym (div-at m e 1 (pos 1) (zero-lt-suc 0)
+        ∙ round-same binary64 false (m * up e * 1) (1 * 2 * down e) r 2 (mul-pos (zero-lt-suc 1) (down-pos e)) (zero-lt-suc 1) (ap (λ (z : ℕ). z * 2) (v .1) ∙ crossed r (down e))))
+        (exact64 r 1 (lit≤ tt) R)
+
+    halved : (x : Float) → HasValue x false r 1 → HasValue (div binary64 x two) false r 2
+    halved x v = plain (λ (x : Float). HasValue x false r 1 → HasValue (div binary64 x two) false r 2) halved-fin x (of-value x r 1 v) v
+
+-- ---- a time that comes off an elapsed time: the cap makes no difference there
+nanos-less : (a : ℕ) (x : Float) (b : ℕ) → a ≤ most → UpTo x b → a - nanosOf x ≡ a - nanosAt (num x) (den x)
+nanos-less a x b h p = cut a (nanosAt (num x) (den x)) (nanosOf x) h (nat-plain nanosAt x (plain-up-to x b p))
+  where
+    cut : (a v w : ℕ) → a ≤ most → w ≡ min v most → a - w ≡ a - v
+    cut a v w h e = omega arith
+
+exact-u64 : Exact 18446744073709551616
+unfolding round
+exact-u64 = (refl, refl)
+
+exact-datagrams : Exact 4390325089542873284608
+unfolding round
+exact-datagrams = (refl, refl)
+
+pub count-up-to : (n : ℕ) → n ≤ most → UpTo (ofInt binary64 (pos n)) 18446744073709551616
+count-up-to n h = of-nat-up-to n 18446744073709551616 exact-u64 (le-trans h (lit≤ tt))
+
+pub datagrams-up-to : (n : ℕ) → n ≤ most → UpTo (mul binary64 (ofInt binary64 (pos n)) perDatagram) 4390325089542873284608
+datagrams-up-to n h = mul-up-to (ofInt binary64 (pos n)) perDatagram 18446744073709551616 238 exact-datagrams (count-up-to n h) (refl, lit≤ tt)
+
+-- at every rate of one sample a second or more
+module _ (a n : ℕ) (rate : Float) (h : a ≤ most) (k : n ≤ most) (p : T (positive rate)) (one : den rate ≤ num rate) where
+  pub account-less : let x = div binary64 (ofInt binary64 (pos n)) rate in a - accountTime n rate ≡ a - nanosAt (num x) (den x)
+  unfolding accountTime
+  account-less = nanos-less a (div binary64 (ofInt binary64 (pos n)) rate) 18446744073709551616 h (div-up-to (ofInt binary64 (pos n)) rate 18446744073709551616 18446744073709551616 p exact-u64 (count-up-to n k) (mul-le-mul-left 18446744073709551616 one))
+
+  pub covered-less : let x = div binary64 (mul binary64 (ofInt binary64 (pos n)) perDatagram) rate in a - coveredTime n rate ≡ a - nanosAt (num x) (den x)
+  unfolding coveredTime
+  covered-less =
+      let x = mul binary64 (ofInt binary64 (pos n)) perDatagram in
+      nanos-less a (div binary64 x rate) 4390325089542873284608 h (div-up-to x rate 4390325089542873284608 4390325089542873284608 p exact-datagrams (datagrams-up-to n k) (mul-le-mul-left 4390325089542873284608 one))

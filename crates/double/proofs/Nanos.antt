@@ -230,6 +230,35 @@ shl1-pos j h = subst (λ (z : ℕ). 0 < z) (sym (one-shl j h)) (pow-pos j)
 pub shl1-even : (j : ℕ) → 0 < j → j < 63 → shl1 j % 2 ≡ 0
 shl1-even j p h = ap (λ (z : ℕ). z % 2) (one-shl j h) ∙ even-pow j p
 
+-- ---- as `nanos_of` has them from scale 1048 on: u is 1 << (1074 - k)
+module _ (d k : ℕ) (K : k < 1074) (L : 1048 ≤ k) where
+  u-is : shl1 (1074 - k) ≡ 2 ^ (1074 - k)
+  u-is = one-shl (1074 - k) (omega arith)
+
+  w-is : 67108864 / shl1 (1074 - k) * shl1 (1074 - k) ≡ 67108864
+  w-is = unit-w k (shl1 (1074 - k)) L K u-is
+
+  pub past-at : shl1 (1074 - k) ≤ bOf d / 274877906944 → 18446744073709551615 ≡ nanosBy d k
+  past-at = nanos-past d k (bOf d) (rOf d) (r-small d) (two-parts d) (shl1 (1074 - k)) (67108864 / shl1 (1074 - k)) K u-is w-is
+
+  pub coarse-at : toEven (bOf d * (67108864 / shl1 (1074 - k)) + rOf d / shl1 (1074 - k)) (rOf d % shl1 (1074 - k)) (shl1 (1074 - k)) 0 ≡ nanosBy d k
+  coarse-at = nanos-coarse d k (bOf d) (rOf d) (r-small d) (two-parts d) (shl1 (1074 - k)) (67108864 / shl1 (1074 - k)) K u-is w-is
+
+  pub sum-fits : bOf d / 274877906944 < shl1 (1074 - k) → bOf d * (67108864 / shl1 (1074 - k)) + rOf d / shl1 (1074 - k) < 18446744073709551616
+  sum-fits h =
+      let u = shl1 (1074 - k) in
+      let w = 67108864 / u in
+      under (bOf d * w) w (rOf d / u) (coarse-mul d k (bOf d) (rOf d) (r-small d) (two-parts d) u w K u-is w-is h) (rest-lt d k (bOf d) (rOf d) (r-small d) (two-parts d) u w K u-is w-is)
+    where
+      under : (x w y : ℕ) → x + w ≤ 18446744073709551616 → y < w → x + y < 18446744073709551616
+      under x w y a b = omega arith
+
+  pub product-fits : bOf d / 274877906944 < shl1 (1074 - k) → bOf d * (67108864 / shl1 (1074 - k)) < 18446744073709551616
+  product-fits h = first (bOf d * (67108864 / shl1 (1074 - k))) (rOf d / shl1 (1074 - k)) (sum-fits h)
+    where
+      first : (x y : ℕ) → x + y < 18446744073709551616 → x < 18446744073709551616
+      first x y h = omega arith
+
 pub nanos-zero : (c : ℕ) → 0 < c → nanosAt 0 c ≡ 0
 nanos-zero c C =
     ap (λ (z : ℕ). nearest (z / c) (compare (z % c * 2) c)) (zero-mul 1000000000)

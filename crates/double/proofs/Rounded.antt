@@ -1,7 +1,7 @@
 -- Rust's `x.round()`, a double again: a whole double is its own, and from 2 ^ 52 on each is whole. Assumes nothing.
 use mathlib.Core.Path.{_≡_, refl, sym, ap, _∙_, subst}
 use Prim.Native.Nat.{ℕ, zero, suc, _+_, _-_, _*_, _/_, _%_, _^_, _≤_, _<_, min, compare, Ordering, Ordering·lt, Ordering·eq, Ordering·gt}
-use native.Mathlib.Nat.{le-trans, le-of-eq, lt-of-lt-of-le, mul-one, one-mul, mul-assoc, zero-mul, mul-pos, zero-lt-suc, add-zero, not-le-of-lt, div-add-mod', div-lt-iff-lt-mul, mul-le-mul-left, eq-of-mul-eq-mul-right, zero-mod}
+use native.Mathlib.Nat.{le-trans, le-of-eq, le-of-lt, lt-of-lt-of-le, mul-one, one-mul, mul-assoc, zero-mul, mul-pos, zero-lt-suc, add-zero, not-le-of-lt, div-add-mod', div-lt-iff-lt-mul, mul-le-mul-left, eq-of-mul-eq-mul-right, zero-mod}
 use native.Mathlib.Omega.{arith}
 use mathlib.Core.Bool.{Bool, true, false, not, cond, true≢false, _&&_}
 use borrow.Author.Tests.{ltb-true, ltb-false, le-ltb, eqb-true, eq-eqb, leb-true, leb-false}
@@ -11,9 +11,11 @@ use lib.Pow.{pow-add, pow-pos, pow-mono, pow-lt, shl-lt}
 use lib.Ieee.{Float, nan, inf, fin, Format, binary64, prec, emax, low, up, down, round, fits, lt, neg, ofInt}
 use lib.Ieee.Fits.{up-pos, down-pos, round-fits, reach, and-l, and-r}
 use lib.Ieee.Exact.{HasValue, round-exact}
+use lib.Ieee.Back.{round-whole}
 use lib.Ieee.Scale.{round-same, finite}
 use Rattle.double.specs.Whole.{most, natOf, roundAt, roundOf, away, rounded, isWhole}
 use Rattle.double.proofs.Orders.{away-lt}
+use Rattle.double.proofs.Fractions.{round-le}
 use Rattle.double.proofs.Wholes.{below-zero}
 use Rattle.double.proofs.Signs.{neg-round}
 use Rattle.double.proofs.Unique.{unique, kept}
@@ -67,6 +69,9 @@ round-own f s m e t =
 round-at-whole : (a c : ℕ) → 0 < c → a % c ≡ 0 → roundAt a c ≡ a / c
 round-at-whole a c C z = ap (λ (r : ℕ). away (a / c) (compare (r * 2) c)) z ∙ away-lt (0 * 2) c (a / c) C
 
+div-whole : (a c : ℕ) → a % c ≡ 0 → a / c * c ≡ a * 1
+div-whole a c z = sym (add-zero (a / c * c)) ∙ ap (λ (r : ℕ). a / c * c + r) (sym z) ∙ div-add-mod' a c ∙ sym (mul-one a)
+
 -- what is not finite, and what is whole
 own : (x : Float) → T (fits binary64 x) → (finite x ≡ true → isWhole x ≡ true) → x ≡ rounded x
 unfolding isWhole rounded
@@ -77,11 +82,8 @@ own (fin s m e) t w =
     let c = down e in
     let z : a % c ≡ 0 = eqb-true (a % c) 0 (w refl) in
     sym (ap (λ (n : ℕ). round binary64 s n 1) (round-at-whole a c (down-pos e) z)
-    ∙ round-same binary64 s (a / c) 1 a c (zero-lt-suc 0) (down-pos e) (exact a c z)
+    ∙ round-same binary64 s (a / c) 1 a c (zero-lt-suc 0) (down-pos e) (div-whole a c z)
     ∙ round-own binary64 s m e t)
-  where
-    exact : (a c : ℕ) → a % c ≡ 0 → a / c * c ≡ a * 1
-    exact a c z = sym (add-zero (a / c * c)) ∙ ap (λ (r : ℕ). a / c * c + r) (sym z) ∙ div-add-mod' a c ∙ sym (mul-one a)
 
 whole-zero : (s : Bool) (m : ℕ) (e : ℤ) → m ≡ 0 → isWhole (fin s m e) ≡ true
 unfolding isWhole
@@ -101,6 +103,11 @@ no-fraction m k M h = not-le-of-lt M (le-trans (mul-le-mul-left (2 ^ 52) (pow-mo
     at-least : (k : ℕ) → 1 ≤ suc k
     at-least k = omega arith
 
+whole-large : (s : Bool) (m : ℕ) (e : ℤ) → T (fits binary64 (fin s m e)) → 2 ^ 52 * down e ≤ m * up e → isWhole (fin s m e) ≡ true
+whole-large s zero e t h = whole-zero s 0 e refl
+whole-large s (suc m) (pos k) t h = whole-up s (suc m) k
+whole-large s (suc m) (negsuc k) t h = absurd (no-fraction (suc m) k (kept binary64 s m (negsuc k) t .small) (subst (λ (z : ℕ). 2 ^ 52 * 2 ^ suc k ≤ z) (mul-one (suc m)) h))
+
 whole-past : (x : Float) → T (fits binary64 x) → lt x (fin false 0 (pos 0)) ≡ false → lt x (fin false 1 (pos 52)) ≡ false → finite x ≡ true → isWhole x ≡ true
 unfolding lt
 whole-past nan t n h f = absurd (true≢false (sym f))
@@ -109,11 +116,7 @@ whole-past (fin true m e) t n h f = absurd (some (m * up e * 1) (1 * 2 ^ 52 * do
   where
     some : (a b : ℕ) → 0 < b → a + b ≤ 0 → ⊥
     some a b h k = omega arith
-whole-past (fin false zero e) t n h f = whole-zero false 0 e refl
-whole-past (fin false (suc m) (pos k)) t n h f = whole-up false (suc m) k
-whole-past (fin false (suc m) (negsuc k)) t n h f =
-    absurd (no-fraction (suc m) k (kept binary64 false m (negsuc k) t .small)
-    (subst (λ (z : ℕ). 2 ^ 52 * 2 ^ suc k ≤ z) (mul-one (suc m * 1) ∙ mul-one (suc m)) (ltb-false (suc m * 1 * 1) (1 * 2 ^ 52 * 2 ^ suc k) h)))
+whole-past (fin false m e) t n h f = whole-large false m e t (subst (λ (z : ℕ). 2 ^ 52 * down e ≤ z) (mul-one (m * up e)) (ltb-false (m * up e * 1) (1 * 2 ^ 52 * down e) h))
 
 whole-none : (x : Float) → lt x (fin false 0 (pos 0)) ≡ false → lt (fin false 0 (pos 0)) x ≡ false → finite x ≡ true → isWhole x ≡ true
 unfolding lt
@@ -127,6 +130,19 @@ whole-none (fin true m e) n h f = whole-zero true m e (first-zero m (up e) (up-p
     first-zero : (m u : ℕ) → 0 < u → m * u ≡ 0 → m ≡ 0
     first-zero m u U h = eq-of-mul-eq-mul-right u U m 0 (h ∙ sym (zero-mul u))
 whole-none (fin false m e) n h f = whole-zero false m e (below-zero m e h)
+
+-- ---- nothing is rounded twice: the double is the whole number that is nearest, half away from zero
+pub rounded-exact : (s : Bool) (m : ℕ) (e : ℤ) → T (fits binary64 (fin s m e)) → HasValue (rounded (fin s m e)) s (roundAt (m * up e) (down e)) 1
+unfolding rounded isWhole
+rounded-exact s m e t = go (ltb (m * up e) (2 ^ 52 * down e)) refl
+  where
+    go : (b : Bool) → ltb (m * up e) (2 ^ 52 * down e) ≡ b → HasValue (round binary64 s (roundAt (m * up e) (down e)) 1) s (roundAt (m * up e) (down e)) 1
+    go true l = round-whole binary64 s (roundAt (m * up e) (down e)) (le-trans (round-le (m * up e) (down e) (2 ^ 52) (down-pos e) (le-of-lt (ltb-true (m * up e) (2 ^ 52 * down e) l))) (lit≤ tt))
+    go false l =
+        let w = whole-large s m e t (ltb-false (m * up e) (2 ^ 52 * down e) l) in
+        let z : m * up e % down e ≡ 0 = eqb-true (m * up e % down e) 0 w in
+        subst (λ (x : Float). HasValue x s (roundAt (m * up e) (down e)) 1) (own (fin s m e) t (λ f. w))
+        (refl, sym (ap (λ (n : ℕ). n * down e) (round-at-whole (m * up e) (down e) (down-pos e) z) ∙ div-whole (m * up e) (down e) z))
 
 -- ---- `round`, by the tests that it makes
 pub past-own : (x : Float) → T (fits binary64 x) → lt x (fin false 0 (pos 0)) ≡ false → lt x (fin false 1 (pos 52)) ≡ false → x ≡ rounded x

@@ -14,7 +14,7 @@ use lib.Ieee.Nearest.{div-same}
 use lib.Ieee.Positive.{num, den, den-pos}
 use borrow.Author.Tests.{ne-eqb, eq-eqb}
 use Rattle.double.specs.Parts.{PartsOf, SplitOf}
-use Rattle.double.proofs.Orders.{bool-ext, order-ext}
+use Rattle.double.proofs.Orders.{bool-ext, order-ext, order-lt}
 
 -- ---- equal fractions a / c and b / d
 rest-same : (a c b d : ℕ) → 0 < c → 0 < d → a * d ≡ b * c → a % c * d ≡ b % d * c
@@ -91,21 +91,25 @@ tiny-half a h = order-ext (compare (a * 2) (2 ^ 1074)) Ordering·lt
     (bool-ext (leb (a * 2) (2 ^ 1074)) true (λ t. tt) (λ t. le→leb (a * 2) (2 ^ 1074) (le-trans (mul-le-mul-right 2 (native.Mathlib.Nat.le-of-lt h)) (lit≤ tt))))
     (ne-eqb (a * 2) (2 ^ 1074) (λ e. native.Mathlib.Nat.lt-irrefl (2 ^ 1074) (subst (λ (z : ℕ). z < 2 ^ 1074) e (lt-of-lt-of-le (mul-lt-mul-of-pos-right h (zero-lt-suc 1)) (lit≤ tt)))))
 
-pub split-tiny : (x : Float) (s : Bool) (d k r : ℕ) → PartsOf x s d k → k < 1020 → r < 2 ^ 54 → eqb r 0 ≡ eqb d 0 → compare (r * 2) 4 ≡ Ordering·lt → SplitOf x 0 r 4
-split-tiny x s d k r p K R z h =
+-- so 0 or a quarter stands for it
+pub split-tiny : (x : Float) (s : Bool) (d k r : ℕ) → PartsOf x s d k → k < 1020 → r ≡ min d 1 → SplitOf x 0 r 4
+split-tiny x s d k r p K e =
     let a = d * 2 ^ k in
     let A : a < 2 ^ 1072 = tiny-lt d k (p .small) K in
     let B : a < 2 ^ 1074 = lt-of-lt-of-le A (pow-mono {i = 1072} {j = 1074} (lit≤ tt)) in
     let q = same-at x a (2 ^ 1074) (pow-pos 1074) (parts-cross x s d k p) in
     record {
       cut = sym (ap (λ (z : ℕ). min z 18446744073709551615) (div-eq-of-lt B)) ∙ q .cut;
-      none = z ∙ sym (same-zero d k) ∙ sym (ap (λ (z : ℕ). eqb z 0) (mod-eq-of-lt B)) ∙ q .none;
-      half = h ∙ sym (tiny-half a A) ∙ sym (ap (λ (z : ℕ). compare (z * 2) (2 ^ 1074)) (mod-eq-of-lt B)) ∙ q .half;
-      room = R;
+      none = any ∙ sym (same-zero d k) ∙ sym (ap (λ (z : ℕ). eqb z 0) (mod-eq-of-lt B)) ∙ q .none;
+      half = order-lt (r * 2) 4 (omega arith) ∙ sym (tiny-half a A) ∙ sym (ap (λ (z : ℕ). compare (z * 2) (2 ^ 1074)) (mod-eq-of-lt B)) ∙ q .half;
+      room = omega arith;
     }
   where
     same-zero : (d k : ℕ) → eqb (d * 2 ^ k) 0 ≡ eqb d 0
     same-zero d k = none-same (d * 2 ^ k) (2 ^ k) d 1 (pow-pos k) (zero-lt-suc 0) (mul-one (d * 2 ^ k))
+
+    any : eqb r 0 ≡ eqb d 0
+    any = bool-ext (eqb r 0) (eqb d 0) (λ t. eq→eqb {a = d} {b = 0} (omega (arith, eqb→eq r 0 t))) (λ t. eq→eqb {a = r} {b = 0} (omega (arith, eqb→eq d 0 t)))
 
 shift-back : (k : ℕ) → k < 1074 → 1074 - k + k ≡ 1074
 shift-back k h = omega arith

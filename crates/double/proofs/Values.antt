@@ -12,6 +12,7 @@ use lib.Ieee.Exact.{HasValue}
 use lib.Ieee.Scale.{round-same}
 use Rattle.double.specs.Whole.{most, natOf, floorOf}
 use Rattle.double.proofs.Orders.{bool-ext}
+use Rattle.double.proofs.Plain.{plain-two, of-value}
 use Rattle.double.proofs.Signs.{minus?}
 use Rattle.double.proofs.Floors.{cut-of-value, cast-is-floor}
 
@@ -81,23 +82,18 @@ module _ (f : Format) (m : ℕ) (e : ℤ) (n : ℕ) (d : ℤ) (i k : ℕ) (v : m
       opened ∙ sum-lt f (i * (down e * down d)) (k * (down e * down d)) (down e * down d) (mul-lt-mul-of-pos-right h both)
       ∙ round-same f true (k * (down e * down d) - i * (down e * down d)) (down e * down d) (k - i) 1 both (zero-lt-suc 0) (over k i (down e * down d))
 
--- two that have values are numbers, not negative
-of-values : {A : Type 0} (g h : Float → Float → A) (i c k d : ℕ)
-    → ((m : ℕ) (e : ℤ) (n : ℕ) (p : ℤ) → m * up e * c ≡ i * down e → n * up p * d ≡ k * down p → g (fin false m e) (fin false n p) ≡ h (fin false m e) (fin false n p))
-    → (x y : Float) → HasValue x false i c → HasValue y false k d → g x y ≡ h x y
-of-values g h i c k d r nan y v w = absurd v
-of-values g h i c k d r (inf s) y v w = absurd v
-of-values g h i c k d r (fin s m e) nan v w = absurd w
-of-values g h i c k d r (fin s m e) (inf t) v w = absurd w
-of-values g h i c k d r (fin true m e) (fin t n p) v w = absurd (true≢false (v .0))
-of-values g h i c k d r (fin false m e) (fin true n p) v w = absurd (true≢false (w .0))
-of-values g h i c k d r (fin false m e) (fin false n p) v w = r m e n p (v .1) (w .1)
+-- what holds of two such numbers holds of two doubles that have their values
+of-values : {A : Type 0} (g : Float → Float → A) (r : A) (i c k d : ℕ)
+    → ((m : ℕ) (e : ℤ) (n : ℕ) (p : ℤ) → m * up e * c ≡ i * down e → n * up p * d ≡ k * down p → g (fin false m e) (fin false n p) ≡ r)
+    → (x y : Float) → HasValue x false i c → HasValue y false k d → g x y ≡ r
+of-values g r i c k d f x y v w =
+    plain-two (λ (x y : Float). HasValue x false i c → HasValue y false k d → g x y ≡ r) (λ m e n p v w. f m e n p (v .1) (w .1)) x y (of-value x i c v) (of-value y k d w) v w
 
 pub sub-ge : (f : Format) (x y : Float) (i k : ℕ) → HasValue x false i 1 → HasValue y false k 1 → k ≤ i → sub f x y ≡ round f false (i - k) 1
-sub-ge f x y i k v w h = of-values (sub f) (λ (a b : Float). round f false (i - k) 1) i 1 k 1 (λ m e n d p q. fin-ge f m e n d i k p q h) x y v w
+sub-ge f x y i k v w h = of-values (sub f) (round f false (i - k) 1) i 1 k 1 (λ m e n d p q. fin-ge f m e n d i k p q h) x y v w
 
 pub sub-lt : (f : Format) (x y : Float) (i k : ℕ) → HasValue x false i 1 → HasValue y false k 1 → i < k → sub f x y ≡ round f true (k - i) 1
-sub-lt f x y i k v w h = of-values (sub f) (λ (a b : Float). round f true (k - i) 1) i 1 k 1 (λ m e n d p q. fin-lt f m e n d i k p q h) x y v w
+sub-lt f x y i k v w h = of-values (sub f) (round f true (k - i) 1) i 1 k 1 (λ m e n d p q. fin-lt f m e n d i k p q h) x y v w
 
 -- ---- how they compare: as their fractions do
 crossed : (x p y q a c b d : ℕ) → 0 < c → 0 < d → x * c ≡ a * p → y * d ≡ b * q → x * q < y * p → a * d < b * c
@@ -115,7 +111,7 @@ crossed x p y q a c b d C D v w h =
 
 pub lt-of-values : (x y : Float) (a c b d : ℕ) → 0 < c → 0 < d → HasValue x false a c → HasValue y false b d → lt x y ≡ ltb (a * d) (b * c)
 unfolding lt
-lt-of-values x y a c b d C D v w = of-values lt (λ (x y : Float). ltb (a * d) (b * c)) a c b d compared x y v w
+lt-of-values x y a c b d C D v w = of-values lt (ltb (a * d) (b * c)) a c b d compared x y v w
   where
     compared : (m : ℕ) (e : ℤ) (n : ℕ) (g : ℤ) → m * up e * c ≡ a * down e → n * up g * d ≡ b * down g → ltb (m * up e * down g) (n * up g * down e) ≡ ltb (a * d) (b * c)
     compared m e n g v w =

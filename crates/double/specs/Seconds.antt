@@ -1,13 +1,18 @@
 -- Nanoseconds and a double's seconds. Definitions only.
+use mathlib.Core.Path.{_≡_, refl}
 use Prim.Native.Nat.{ℕ, _+_, _*_, _/_, _%_, _^_, min, compare}
 use mathlib.Core.Bool.{false}
 use lib.IntN.{pos}
 use lib.Ieee.{Float, fin, binary64, add, div, ofInt, nearest}
 use Rattle.double.specs.Whole.{most, natOf}
 
--- 1e9 = 1953125 * 2 ^ 9
+-- 1e9, with its control
 abbrev pub giga : Float
 giga = fin false 1953125 (pos 9)
+
+giga-is : giga ≡ ofInt binary64 (pos 1000000000)
+unfolding ofInt
+giga-is = refl
 
 -- 01, Numbers in the stream: seconds are whole seconds plus nanoseconds / 1e9 in doubles
 unfoldable pub secondsOf : ℕ → Float

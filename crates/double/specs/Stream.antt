@@ -1,12 +1,13 @@
 -- What a stream's elapsed time and rate give: 01, Numbers in the stream. The rate is in samples a second, and any double. Definitions only.
+use mathlib.Core.Path.{_≡_, refl}
 use Prim.Native.Nat.{ℕ, _+_, min}
 use mathlib.Core.Bool.{Bool, false}
 use lib.IntN.{pos, negsuc}
-use lib.Ieee.{Float, fin, binary64, sub, mul, div, lt, ofInt}
+use lib.Ieee.{Float, fin, binary64, sub, mul, div, lt, ofInt, round}
 use Rattle.double.specs.Whole.{most, floorOf, ceilOf, rounded}
 use Rattle.double.specs.Seconds.{secondsOf, nanosOf}
 
--- 238 samples a datagram, the double nearest to 1.01, and 2
+-- the doubles 238, the samples of a datagram, 1.01 and 2, each with its control
 abbrev pub perDatagram : Float
 perDatagram = fin false 119 (pos 1)
 
@@ -15,6 +16,18 @@ slack = fin false 4548635623644201 (negsuc 51)
 
 abbrev pub two : Float
 two = fin false 1 (pos 1)
+
+perDatagram-is : perDatagram ≡ ofInt binary64 (pos 238)
+unfolding ofInt
+perDatagram-is = refl
+
+slack-is : slack ≡ round binary64 false 101 100
+unfolding round
+slack-is = refl
+
+two-is : two ≡ ofInt binary64 (pos 2)
+unfolding ofInt
+two-is = refl
 
 -- (seconds × (rate / 238)) × 1.01, in doubles
 unfoldable pub plausible : ℕ → Float → Float

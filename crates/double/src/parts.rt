@@ -7,42 +7,56 @@ ghost use Rattle.double.specs.Whole.{most};
 ghost use Rattle.double.specs.Parts.{PartsOf, SplitOf, NearOf};
 use super::whole::is_finite;
 
-pub struct Parts {
-    pub negative: bool,
-    pub digits: u64,
-    pub scale: u64,
+// The weights of the fields of a double's bits: the sign's, 2^63, and the exponent's, 2^52.
+pub(crate) const SIGN: u64 = 0x8000_0000_0000_0000;
+
+pub(crate) const EXPONENT: u64 = 0x10_0000_0000_0000;
+
+// The largest u64.
+pub(crate) const MOST: u64 = 0xffff_ffff_ffff_ffff;
+
+pub(crate) struct Parts {
+    pub(crate) negative: bool,
+    pub(crate) digits: u64,
+    pub(crate) scale: u64,
 }
 
 // A finite x is digits * 2^scale / 2^1074, negative where the sign's bit is set.
-pub fn apart(x: f64) -> Parts
+pub(crate) fn apart(x: f64) -> Parts
     requires { ⌜ T (finite x) ⌝ }
     ensures { λ r. ⌜ PartsOf x (r .negative) (r .digits) (r .scale) ⌝ }
 {
     let b = f64::to_bits(x);
-    let e = b % 9223372036854775808 / 4503599627370496;
-    let t = b % 4503599627370496;
+    let e = b % SIGN / EXPONENT;
+    let t = b % EXPONENT;
     if e == 0 {
         return Parts {
-            negative: b >= 9223372036854775808,
+            negative: b >= SIGN,
             digits: t,
             scale: 0,
         };
     }
     Parts {
-        negative: b >= 9223372036854775808,
-        digits: t + 4503599627370496,
+        negative: b >= SIGN,
+        digits: t + EXPONENT,
         scale: e - 1,
     }
 }
 
-pub struct Mixed {
-    pub whole: u64,
-    pub rest: u64,
-    pub unit: u64,
+pub(crate) struct Mixed {
+    pub(crate) whole: u64,
+    pub(crate) rest: u64,
+    pub(crate) unit: u64,
+}
+
+fn one_if_any(d: u64) -> u64
+    ensures { λ r. ⌜ r ≡ min d 1 ⌝ }
+{
+    if d == 0 { 0 } else { 1 }
 }
 
 // The size of a finite x as whole + rest / unit. Something below a quarter stands as a quarter.
-pub fn split(x: f64) -> Mixed
+pub(crate) fn split(x: f64) -> Mixed
     requires { ⌜ T (finite x) ⌝ }
     ensures { λ r. ⌜ SplitOf x (r .whole) (r .rest) (r .unit) ⌝ }
 {
@@ -50,16 +64,9 @@ pub fn split(x: f64) -> Mixed
     let d = p.digits;
     let k = p.scale;
     if k < 1020 {
-        if d == 0 {
-            return Mixed {
-                whole: 0,
-                rest: 0,
-                unit: 4,
-            };
-        }
         return Mixed {
             whole: 0,
-            rest: 1,
+            rest: one_if_any(d),
             unit: 4,
         };
     }
@@ -79,14 +86,14 @@ pub fn split(x: f64) -> Mixed
         };
     }
     Mixed {
-        whole: 18446744073709551615,
+        whole: MOST,
         rest: 0,
         unit: 1,
     }
 }
 
 // The whole numbers near any x: nothing below 0 and of a NaN, and the largest at infinity.
-pub fn near(x: f64) -> Mixed
+pub(crate) fn near(x: f64) -> Mixed
     ensures { λ r. ⌜ NearOf x (r .whole) (r .rest) (r .unit) ⌝ }
 {
     if x > 0.0 {
@@ -94,7 +101,7 @@ pub fn near(x: f64) -> Mixed
             return split(x);
         }
         return Mixed {
-            whole: 18446744073709551615,
+            whole: MOST,
             rest: 0,
             unit: 1,
         };
@@ -106,9 +113,9 @@ pub fn near(x: f64) -> Mixed
     }
 }
 
-// Rust's `n.saturating_add(1)`.
-pub fn one_more(n: u64) -> u64
-    ensures { λ r. ⌜ r ≡ min (n + 1) most ⌝ }
+// Rust's `n.saturating_add(k)`.
+pub(crate) fn saturating_add(n: u64, k: u64) -> u64
+    ensures { λ r. ⌜ r ≡ min (n + k) most ⌝ }
 {
-    if n < 18446744073709551615 { n + 1 } else { n }
+    if n <= MOST - k { n + k } else { MOST }
 }

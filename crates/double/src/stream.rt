@@ -1,23 +1,25 @@
 // What a stream's elapsed time and rate give: 01, Numbers in the stream.
 ghost use mathlib.Core.Path.{_≡_};
 ghost use Rattle.double.specs.Stream.{jumpLimit, restartMissing, accountTime, coveredTime, belowHalf};
+use super::parts::saturating_add;
 use super::time::nanoseconds;
 use super::time::seconds;
 use super::whole::ceil_u64;
 use super::whole::floor_u64;
 use super::whole::round;
 
+// The Rust's constant: the datagrams that a socket buffer can hold at most.
+const MAX_BUFFERED_DATAGRAMS: u64 = 8192;
+
 // The most datagrams that can have been lost in ns nanoseconds: what the radio sent, with 1% for clock skew, and one
 // socket buffer. The Rust's `plausible_lost_datagrams`.
 pub fn jump_limit(ns: u64, rate: f64) -> u64
     ensures { λ r. ⌜ r ≡ jumpLimit ns rate ⌝ }
 {
-    let n = ceil_u64(seconds(ns) * (rate / 238.0) * 1.01);
-    if n < 18446744073709543424 {
-        n + 8192
-    } else {
-        18446744073709551615
-    }
+    saturating_add(
+        ceil_u64(seconds(ns) * (rate / 238.0) * 1.01),
+        MAX_BUFFERED_DATAGRAMS,
+    )
 }
 
 // What a restart misses after ns nanoseconds: the samples of that time, without the datagram that came.

@@ -2,8 +2,9 @@
 ghost use mathlib.Core.Path.{_≡_};
 ghost use Prim.Native.Nat.{_%_, _<_, _≤_, _^_};
 ghost use Rattle.double.specs.Seconds.{secondsOf, nanosOf, toEven, nanosBy};
+use super::parts::MOST;
 use super::parts::apart;
-use super::parts::one_more;
+use super::parts::saturating_add;
 use super::whole::is_finite;
 
 // Rust's `as_secs_f64`: whole seconds plus nanoseconds / 1e9.
@@ -22,18 +23,21 @@ fn to_even(q: u64, t: u64, u: u64, s: u64) -> u64
         return q;
     }
     if t * 2 > u {
-        return one_more(q);
+        return saturating_add(q, 1);
     }
     if s > 0 {
-        return one_more(q);
+        return saturating_add(q, 1);
     }
     if q % 2 == 0 {
         return q;
     }
-    one_more(q)
+    saturating_add(q, 1)
 }
 
-// The nanoseconds of d * 2^k / 2^1074 seconds. The product d * 1e9 has 83 bits: it is kept as b * 2^26 + r.
+// d * 1e9 has 83 bits: it is kept as b * LIMB + r. MOST / LIMB is 2^38 - 1 and something: from 2^38 on the number is past it.
+const LIMB: u64 = 67108864;
+
+// The nanoseconds of d * 2^k / 2^1074 seconds.
 fn nanos_of(d: u64, k: u64) -> u64
     requires { ⌜ (d < 2 ^ 53) × (1074 ≤ k → 2 ^ 52 ≤ d) ⌝ }
     ensures { λ r. ⌜ r ≡ nanosBy d k ⌝ }
@@ -42,20 +46,20 @@ fn nanos_of(d: u64, k: u64) -> u64
         return 0;
     }
     if k >= 1074 {
-        return 18446744073709551615;
+        return MOST;
     }
-    let a = d % 67108864 * 1000000000;
-    let b = d / 67108864 * 1000000000 + a / 67108864;
-    let r = a % 67108864;
+    let a = d % LIMB * 1000000000;
+    let b = d / LIMB * 1000000000 + a / LIMB;
+    let r = a % LIMB;
     if k < 1048 {
         let u: u64 = 1 << (1048 - k);
         return to_even(b / u, b % u, u, r);
     }
     let u: u64 = 1 << (1074 - k);
     if b / 274877906944 >= u {
-        return 18446744073709551615;
+        return MOST;
     }
-    to_even(b * (67108864 / u) + r / u, r % u, u, 0)
+    to_even(b * (LIMB / u) + r / u, r % u, u, 0)
 }
 
 // Rust's `Duration::from_secs_f64` in nanoseconds, ties to even, from the double's exact value. Where that panics, 0 for a
@@ -68,7 +72,7 @@ pub fn nanoseconds(x: f64) -> u64
             let p = apart(x);
             return nanos_of(p.digits, p.scale);
         }
-        return 18446744073709551615;
+        return MOST;
     }
     0
 }

@@ -5,8 +5,10 @@ ghost use lib.IntN.{pos};
 ghost use lib.Ieee.{fin, lt, toUnsigned};
 ghost use lib.Ieee.Scale.{finite};
 ghost use Rattle.double.specs.Whole.{floorOf, ceilOf, roundOf, rounded, isWhole};
+use super::parts::EXPONENT;
+use super::parts::SIGN;
 use super::parts::near;
-use super::parts::one_more;
+use super::parts::saturating_add;
 use super::parts::split;
 
 pub fn is_finite(x: f64) -> bool
@@ -15,7 +17,7 @@ pub fn is_finite(x: f64) -> bool
     if x != x {
         return false;
     }
-    f64::to_bits(x) % 9223372036854775808 / 4503599627370496 < 2047
+    f64::to_bits(x) % SIGN / EXPONENT < 2047
 }
 
 pub fn is_whole(x: f64) -> bool
@@ -50,7 +52,7 @@ pub fn ceil_u64(x: f64) -> u64
     if s.rest == 0 {
         return s.whole;
     }
-    one_more(s.whole)
+    saturating_add(s.whole, 1)
 }
 
 // Rust's `x.round() as u64`: half away from zero.
@@ -61,7 +63,7 @@ pub fn round_u64(x: f64) -> u64
     if s.rest * 2 < s.unit {
         return s.whole;
     }
-    one_more(s.whole)
+    saturating_add(s.whole, 1)
 }
 
 // From 2^52 on every double is whole.

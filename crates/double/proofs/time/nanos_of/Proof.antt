@@ -3,7 +3,7 @@ use Prim.Native.Nat.{ℕ, _+_, _-_, _*_, _/_, _%_, _^_, _<_, _≤_}
 use native.Mathlib.Nat.{lt-of-le-of-lt, mod-le}
 use native.Mathlib.Omega.{arith}
 use borrow.Author.Needs.{needs}
-use Rattle.double.proofs.Nanos.{nanos-tiny, nanos-over, nanos-fine, nanos-coarse, nanos-past, coarse-mul, rest-lt, two-parts, one-shl, unit-w, aOf, bOf, rOf, r-small, b-small, shl1, shl1-pos, shl1-even}
+use Rattle.double.proofs.Nanos.{nanos-tiny, nanos-over, nanos-fine, past-at, coarse-at, sum-fits, product-fits, two-parts, one-shl, bOf, rOf, r-small, b-small, shl1, shl1-pos, shl1-even}
 use Rattle.double.proofs.time.nanos_of.Statement.{statement}
 use Rattle.double.proofs.time.nanos_of.Tie as tie
 
@@ -52,60 +52,26 @@ sub-u-2 c = search needs
 shl-u-2 : tie.Need-shl-u-2
 shl-u-2 c = search needs
 
-module _ (d k : ℕ) (K : k < 1074) (L : 1048 ≤ k) where
-  u-is : shl1 (1074 - k) ≡ 2 ^ (1074 - k)
-  u-is = one-shl (1074 - k) (omega arith)
-
-  w-is : 67108864 / shl1 (1074 - k) * shl1 (1074 - k) ≡ 67108864
-  w-is = unit-w k (shl1 (1074 - k)) L K u-is
-
 returns-4 : tie.Need-returns-4
 returns-4 c =
-    let g = c .before .before .before .before in
-    let d = g .args .d in
-    let k = g .args .k in
-    let K : k < 1074 = c .before .before .if2 .left in
-    let L : 1048 ≤ k = c .before .if3 .left in
-    let u = shl1 (1074 - k) in
-    nanos-past d k (bOf d) (rOf d) (r-small d) (two-parts d) u (67108864 / u) K (u-is d k K L) (w-is d k K L) (c .if4 .taken)
+    let g = c .before .before .before .before .args in
+    past-at (g .d) (g .k) (c .before .before .if2 .left) (c .before .if3 .left) (c .if4 .taken)
 
 div-to-even-2 : tie.Need-div-to-even-2
 div-to-even-2 c = shl1-pos (1074 - c .before .before .before .before .args .k) (omega arith)
 
 mul-to-even : tie.Need-mul-to-even
 mul-to-even c =
-    let g = c .before .before .before .before in
-    let d = g .args .d in
-    let k = g .args .k in
-    let K : k < 1074 = c .before .before .if2 .left in
-    let L : 1048 ≤ k = c .before .if3 .left in
-    let u = shl1 (1074 - k) in
-    let w = 67108864 / u in
-    let m = coarse-mul d k (bOf d) (rOf d) (r-small d) (two-parts d) u w K (u-is d k K L) (w-is d k K L) (c .if4 .left) in
-    let r = rest-lt d k (bOf d) (rOf d) (r-small d) (two-parts d) u w K (u-is d k K L) (w-is d k K L) in
-    record { fits = under (bOf d * w) w (rOf d / u) m r }
-  where
-    under : (x w y : ℕ) → x + w ≤ 18446744073709551616 → y < w → x < 18446744073709551616
-    under x w y a b = omega arith
+    let g = c .before .before .before .before .args in
+    record { fits = product-fits (g .d) (g .k) (c .before .before .if2 .left) (c .before .if3 .left) (c .if4 .left) }
 
 div-to-even-3 : tie.Need-div-to-even-3
 div-to-even-3 c = shl1-pos (1074 - c .before .before .before .before .args .k) (omega arith)
 
 add-to-even : tie.Need-add-to-even
 add-to-even c =
-    let g = c .before .before .before .before in
-    let d = g .args .d in
-    let k = g .args .k in
-    let K : k < 1074 = c .before .before .if2 .left in
-    let L : 1048 ≤ k = c .before .if3 .left in
-    let u = shl1 (1074 - k) in
-    let w = 67108864 / u in
-    let m = coarse-mul d k (bOf d) (rOf d) (r-small d) (two-parts d) u w K (u-is d k K L) (w-is d k K L) (c .if4 .left) in
-    let r = rest-lt d k (bOf d) (rOf d) (r-small d) (two-parts d) u w K (u-is d k K L) (w-is d k K L) in
-    record { fits = under (bOf d * w) w (rOf d / u) m r }
-  where
-    under : (x w y : ℕ) → x + w ≤ 18446744073709551616 → y < w → x + y < 18446744073709551616
-    under x w y a b = omega arith
+    let g = c .before .before .before .before .args in
+    record { fits = sum-fits (g .d) (g .k) (c .before .before .if2 .left) (c .before .if3 .left) (c .if4 .left) }
 
 rem-to-even-2 : tie.Need-rem-to-even-2
 rem-to-even-2 c = shl1-pos (1074 - c .before .before .before .before .args .k) (omega arith)
@@ -121,13 +87,8 @@ to-even-requires-2 c κs =
 
 returns-5 : tie.Need-returns-5
 returns-5 c =
-    let g = c .before .before .before .before .before in
-    let d = g .args .d in
-    let k = g .args .k in
-    let K : k < 1074 = c .before .before .before .if2 .left in
-    let L : 1048 ≤ k = c .before .before .if3 .left in
-    let u = shl1 (1074 - k) in
-    c .to-even2 .ensures ∙ nanos-coarse d k (bOf d) (rOf d) (r-small d) (two-parts d) u (67108864 / u) K (u-is d k K L) (w-is d k K L)
+    let g = c .before .before .before .before .before .args in
+    c .to-even2 .ensures ∙ coarse-at (g .d) (g .k) (c .before .before .before .if2 .left) (c .before .before .if3 .left)
 
 pub nanos-of-spec : {M : Type 1} → statement M
 nanos-of-spec =

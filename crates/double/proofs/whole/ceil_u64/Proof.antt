@@ -11,11 +11,11 @@ near-requires c κs = search needs
 returns : tie.Need-returns
 returns c = ceil-none (c .before .before .near .ensures) (c .if1 .taken) (omega arith)
 
-one-more-requires : tie.Need-one-more-requires
-one-more-requires c κs = search needs
+saturating-add-requires : tie.Need-saturating-add-requires
+saturating-add-requires c κs = search needs
 
 returns-2 : tie.Need-returns-2
-returns-2 c = c .one-more .ensures ∙ ceil-some (c .before .before .before .near .ensures) (c .before .if1 .left)
+returns-2 c = c .saturating-add .ensures ∙ ceil-some (c .before .before .before .near .ensures) (c .before .if1 .left)
 
 pub ceil-u64-spec : {M : Type 1} → statement M
-ceil-u64-spec = tie.close (tie.spec near-requires returns one-more-requires returns-2)
+ceil-u64-spec = tie.close (tie.spec near-requires returns saturating-add-requires returns-2)

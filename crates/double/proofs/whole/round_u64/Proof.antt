@@ -14,11 +14,11 @@ mul-if1 c = search needs
 returns : tie.Need-returns
 returns c = round-low (c .before .before .before .near .ensures) (c .if1 .taken) (omega arith)
 
-one-more-requires : tie.Need-one-more-requires
-one-more-requires c κs = search needs
+saturating-add-requires : tie.Need-saturating-add-requires
+saturating-add-requires c κs = search needs
 
 returns-2 : tie.Need-returns-2
-returns-2 c = c .one-more .ensures ∙ round-high (c .before .before .before .before .near .ensures) (c .before .if1 .left)
+returns-2 c = c .saturating-add .ensures ∙ round-high (c .before .before .before .before .near .ensures) (c .before .if1 .left)
 
 pub round-u64-spec : {M : Type 1} → statement M
-round-u64-spec = tie.close (tie.spec near-requires mul-if1 returns one-more-requires returns-2)
+round-u64-spec = tie.close (tie.spec near-requires mul-if1 returns saturating-add-requires returns-2)

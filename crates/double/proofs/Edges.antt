@@ -1,0 +1,45 @@
+-- 01's edges of doubles, and cases where a tempting other reading gives another number: one list, by computation. Assumes nothing.
+use mathlib.Core.Path.{_≡_, refl}
+use mathlib.Core.Bool.{Bool, true, false, cond}
+use mathlib.Core.List.{List, [], _∷_, map}
+use Prim.Native.Nat.{ℕ}
+use lib.IntN.{pos, negsuc}
+use lib.Ieee.{Float, fin, binary64, ofInt, round, div, add, sub, mul, lt}
+use Rattle.double.specs.Whole.{natOf, rounded, ceilOf, roundOf}
+use Rattle.double.specs.Seconds.{secondsOf, nanosOf}
+use Rattle.double.specs.Stream.{perDatagram, slack, plausible, jumpLimit, restartMissing, belowHalf}
+
+abbrev kHz48 : Float
+kHz48 = fin false 375 (pos 7)
+
+abbrev kHz1536 : Float
+kHz1536 = fin false 375 (pos 12)
+
+pub record Edge : Type 0 where
+  pub worked : ℕ
+  pub is : ℕ
+
+abbrev edge : ℕ → ℕ → Edge
+edge worked is = record { worked = worked; is = is }
+
+abbrev bit : Bool → ℕ
+bit b = cond b 1 0
+
+abbrev pub edges : List Edge
+edges =
+    -- E = 0 and E = 1 s at 48 kHz
+    edge (jumpLimit 0 kHz48) 8192 ∷ edge (jumpLimit 1000000000 kHz48) 8396 ∷ edge (restartMissing 0 kHz48) 0 ∷ edge (restartMissing 1000000000 kHz48) 47762 ∷
+    -- a gap of 100 is below half a second at 48 kHz, half a second itself and one of 101 are not
+    edge (bit (belowHalf 23800 kHz48)) 1 ∷ edge (bit (belowHalf 24000 kHz48)) 0 ∷ edge (bit (belowHalf 24038 kHz48)) 0 ∷
+    -- a gap of 3226 is at 1536 kHz, one of 3227 is not
+    edge (bit (belowHalf 767788 kHz1536)) 1 ∷ edge (bit (belowHalf 768026 kHz1536)) 0 ∷
+    -- the association of the product: with the quotient by 238 taken last, 8.925 s would allow 1819 and not 1818
+    edge (jumpLimit 8925000000 kHz48) 10010 ∷ edge (ceilOf (mul binary64 (div binary64 (mul binary64 (secondsOf 8925000000) kHz48) perDatagram) slack)) 1819 ∷
+    -- 238 comes off before the cast: past 2 ^ 54 samples, which 1536 kHz reaches, it leaves 2 fewer than after it
+    edge (restartMissing 11728124030000000000 kHz1536) 18014398510079760 ∷ edge (roundOf (mul binary64 (secondsOf 11728124030000000000) kHz1536)) 18014398510080000 ∷
+    -- half away from zero: 2.5. Nanoseconds to the even one: 976,562.5 and 2,929,687.5
+    edge (roundOf (fin false 5 (negsuc 0))) 3 ∷ edge (nanosOf (fin false 1 (negsuc 9))) 976562 ∷ edge (nanosOf (fin false 3 (negsuc 9))) 2929688 ∷ []
+
+pub edges-hold : map (λ (e : Edge). e .worked) edges ≡ map (λ (e : Edge). e .is) edges
+unfolding jumpLimit plausible restartMissing belowHalf secondsOf natOf rounded add sub mul div lt ofInt
+edges-hold = refl
