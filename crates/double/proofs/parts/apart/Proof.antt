@@ -1,3 +1,4 @@
+-- `double::parts::apart` meets its contract: a double by the fields of its bits. Assumes nothing.
 use mathlib.Core.Path.{sym, subst}
 use lib.Dec.{T}
 use borrow.Author.Needs.{needs}

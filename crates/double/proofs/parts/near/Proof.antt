@@ -1,3 +1,4 @@
+-- `double::parts::near` meets its contract: the split of what is above 0 and finite, and the ends of the range. Assumes nothing.
 use mathlib.Core.Path.{_∙_, sym, subst}
 use borrow.Author.Needs.{needs}
 use lib.Dec.{T}

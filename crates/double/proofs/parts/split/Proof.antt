@@ -1,3 +1,4 @@
+-- `double::parts::split` meets its contract: the scale says how many of the digits stand after the point. Assumes nothing.
 use mathlib.Core.Path.{sym, subst, refl}
 use native.Mathlib.Omega.{arith}
 use borrow.Author.Needs.{needs}

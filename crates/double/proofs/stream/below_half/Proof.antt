@@ -1,3 +1,4 @@
+-- `double::stream::below_half` meets its contract: the operations in their order. Assumes nothing.
 use mathlib.Core.Path.{ap}
 use borrow.Author.Needs.{needs}
 use lib.Ieee.{Float, ofBits, lt, div, binary64}

@@ -1,3 +1,4 @@
+-- `double::stream::covered_time` meets its contract: the operations in their order. Assumes nothing.
 use mathlib.Core.Path.{_∙_, ap}
 use borrow.Author.Needs.{needs}
 use lib.Ieee.{Float, ofBits, mul, div, binary64}

@@ -1,3 +1,4 @@
+-- `double::stream::jump_limit` meets its contract: the operations in their order. Assumes nothing.
 use mathlib.Core.Path.{_∙_, ap}
 use borrow.Author.Needs.{needs}
 use Prim.Native.Nat.{ℕ, _+_, min}

@@ -1,3 +1,4 @@
+-- `double::stream::restart_missing` meets its contract: the operations in their order. Assumes nothing.
 use mathlib.Core.Path.{_∙_, ap}
 use borrow.Author.Needs.{needs}
 use lib.Ieee.{Float, ofBits, sub, mul, binary64}

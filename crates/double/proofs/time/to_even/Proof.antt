@@ -1,3 +1,4 @@
+-- `double::time::to_even` meets its contract: more or less than a half, and at a half the even one. Assumes nothing.
 use mathlib.Core.Path.{_≡_, _∙_, sym}
 use native.Mathlib.Omega.{arith}
 use borrow.Author.Needs.{needs}

@@ -1,3 +1,4 @@
+-- `double::whole::cast_u32` meets its contract: the floor, cut at the largest u32. Assumes nothing.
 use mathlib.Core.Path.{_≡_, sym, subst, _∙_, ap}
 use native.Mathlib.Omega.{arith}
 use borrow.Author.Needs.{needs}

@@ -1,3 +1,4 @@
+-- `double::whole::is_finite` meets its contract: the exponent field of an infinity and a NaN is all ones. Assumes nothing.
 use mathlib.Core.Path.{sym, subst}
 use lib.Dec.{T}
 use Rattle.double.proofs.Decode.{nan-not-finite, same-no-nan, is-finite}

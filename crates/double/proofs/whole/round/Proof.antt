@@ -1,3 +1,4 @@
+-- `double::whole::round` meets its contract: the sign goes through. Assumes nothing.
 use mathlib.Core.Path.{_∙_, ap}
 use borrow.Author.Needs.{needs}
 use lib.Ieee.{ofBits, neg}

@@ -1,3 +1,4 @@
+-- `double::whole::round_u64` meets its contract: one more where at least a half is left. Assumes nothing.
 use mathlib.Core.Path.{_∙_}
 use native.Mathlib.Omega.{arith}
 use borrow.Author.Needs.{needs}

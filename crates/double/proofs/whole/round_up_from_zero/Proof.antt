@@ -1,3 +1,4 @@
+-- `double::whole::round_up_from_zero` meets its contract: below 2 ^ 52 the nearest whole number is a double, and from there on x is whole. Assumes nothing.
 use mathlib.Core.Path.{_∙_, ap, sym, subst}
 use Prim.Native.Nat.{ℕ}
 use borrow.Author.Needs.{needs}
