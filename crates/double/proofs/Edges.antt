@@ -1,10 +1,10 @@
 -- 01's edges of doubles, and cases where a tempting other reading gives another number: one list, by computation. Assumes nothing.
 use mathlib.Core.Path.{_≡_, refl}
-use mathlib.Core.Bool.{Bool, true, false, cond}
+use mathlib.Core.Bool.{Bool, false, cond}
 use mathlib.Core.List.{List, [], _∷_, map}
 use Prim.Native.Nat.{ℕ}
 use lib.IntN.{pos, negsuc}
-use lib.Ieee.{Float, fin, binary64, ofInt, round, div, add, sub, mul, lt}
+use lib.Ieee.{Float, fin, binary64, ofInt, div, add, sub, mul, lt}
 use Rattle.double.specs.Whole.{natOf, rounded, ceilOf, roundOf}
 use Rattle.double.specs.Seconds.{secondsOf, nanosOf}
 use Rattle.double.specs.Stream.{perDatagram, slack, plausible, jumpLimit, restartMissing, belowHalf}

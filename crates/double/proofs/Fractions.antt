@@ -1,7 +1,7 @@
 -- A fraction to a whole number: down, up, half up and to nanoseconds. Each rises with the fraction, and stays under a whole bound. Assumes nothing.
 use mathlib.Core.Path.{_≡_, refl, sym, ap, _∙_, subst}
-use Prim.Native.Nat.{ℕ, zero, suc, _+_, _-_, _*_, _/_, _%_, _≤_, _<_, compare}
-use native.Mathlib.Nat.{le-trans, le-of-eq, lt-of-lt-of-le, mul-comm, mul-assoc, mul-right-comm, mul-pos, add-mul, add-le-add, mul-le-mul-right, le-of-mul-le-mul-right, zero-lt-suc, div-add-mod', mod-lt, div-lt-iff-lt-mul, le-of-suc-le-suc, lt-of-mul-lt-mul-right, suc-mul, mul-one, one-mul, zero-mul, div-one, mul-mul-mul-comm}
+use Prim.Native.Nat.{ℕ, _+_, _-_, _*_, _/_, _%_, _≤_, _<_, compare}
+use native.Mathlib.Nat.{le-trans, le-of-eq, lt-of-lt-of-le, mul-comm, mul-assoc, mul-right-comm, mul-pos, add-mul, mul-le-mul-right, le-of-mul-le-mul-right, zero-lt-suc, div-add-mod', mod-lt, div-lt-iff-lt-mul, le-of-suc-le-suc, lt-of-mul-lt-mul-right, suc-mul, mul-one, one-mul, zero-mul, div-one, mul-mul-mul-comm}
 use native.Mathlib.Omega.{arith}
 use mathlib.Core.Bool.{Bool, true, false, cond}
 use borrow.Author.Tests.{eqb-true, eqb-false, ltb-true, ltb-false}

@@ -1,3 +1,4 @@
+-- The laws of `double`, for its own proofs and for the crates above it: a file imports only what stands above it here.
 pub mod Orders
 pub mod Decode
 pub mod Splits
@@ -8,8 +9,8 @@ pub mod Signs
 pub mod Unique
 pub mod Rounded
 pub mod Floors
-pub mod Values
 pub mod Plain
+pub mod Values
 pub mod Bounds
 pub mod Limits
 pub mod Monotone

@@ -1,15 +1,13 @@
 -- Seconds to nanoseconds, a tie to the even one. Assumes nothing.
-use mathlib.Core.Path.{_≡_, refl, sym, ap, _∙_, subst, subst₂}
-use Prim.Native.Nat.{ℕ, zero, suc, _+_, _-_, _*_, _/_, _%_, _^_, _≤_, _<_, min, compare, Ordering, Ordering·lt, Ordering·eq, Ordering·gt}
-use native.Mathlib.Nat.{le-trans, le-of-eq, le-of-lt, lt-of-lt-of-le, lt-of-le-of-lt, mul-one, one-mul, zero-mul, mul-comm, mul-assoc, mul-right-comm, mul-pos, add-mul, zero-lt-suc, mul-le-mul-right, mul-le-mul-left, mul-lt-mul-of-pos-right, div-eq-of-lt, mod-eq-of-lt, mod-lt, le-div-iff-mul-le, div-lt-iff-lt-mul, div-div-eq-div-mul, div-add-mod', mul-div-cancel, pow-succ', mul-mod-left, add-mul-div-right, mul-add-mod-self-right, add-zero, div-mul-le-self, add-comm}
+use mathlib.Core.Path.{_≡_, sym, ap, _∙_, subst}
+use Prim.Native.Nat.{ℕ, zero, suc, _+_, _-_, _*_, _/_, _%_, _^_, _≤_, _<_, min, compare}
+use native.Mathlib.Nat.{le-trans, le-of-eq, lt-of-lt-of-le, one-mul, zero-mul, mul-comm, mul-assoc, mul-right-comm, mul-pos, zero-lt-suc, mul-le-mul-right, mul-le-mul-left, mul-lt-mul-of-pos-right, div-eq-of-lt, mod-eq-of-lt, mod-lt, le-div-iff-mul-le, div-lt-iff-lt-mul, div-div-eq-div-mul, div-add-mod', mul-div-cancel, mul-mod-left, add-mul-div-right, mul-add-mod-self-right, add-zero, add-comm}
 use native.Mathlib.Omega.{arith}
-use mathlib.Core.Bool.{Bool, true, false, not}
-use lib.Dec.{T, lit≤, lit<, isLe, isEq, leb→le, nleb→lt, eqb→eq}
+use mathlib.Core.Bool.{Bool}
+use lib.Dec.{lit≤, lit<}
 use lib.Arith.{mod-mul, digits-div, digits-mod}
 use lib.Pow.{pow-add, pow-pos, pow-mono, shl-lt, shl-exact}
 use lib.Ieee.{Float, nearest}
-use lib.Ieee.Fits.{eq→eqb}
-use lib.Ieee.Exact.{HasValue}
 use lib.Ieee.Nearest.{closest, closest-same, nearest-ge}
 use lib.Ieee.Positive.{num, den, den-pos}
 use Rattle.double.specs.Whole.{most}

@@ -1,15 +1,15 @@
 -- Rust's `x.round()`, a double again: a whole double is its own, and from 2 ^ 52 on each is whole. Assumes nothing.
 use mathlib.Core.Path.{_≡_, refl, sym, ap, _∙_, subst}
 use Prim.Native.Nat.{ℕ, zero, suc, _+_, _-_, _*_, _/_, _%_, _^_, _≤_, _<_, min, compare, Ordering, Ordering·lt, Ordering·eq, Ordering·gt}
-use native.Mathlib.Nat.{le-trans, le-of-eq, le-of-lt, lt-of-lt-of-le, mul-one, one-mul, mul-assoc, zero-mul, mul-pos, zero-lt-suc, add-zero, not-le-of-lt, div-add-mod', div-lt-iff-lt-mul, mul-le-mul-left, eq-of-mul-eq-mul-right, zero-mod}
+use native.Mathlib.Nat.{le-trans, le-of-lt, lt-of-lt-of-le, mul-one, mul-assoc, zero-mul, mul-pos, zero-lt-suc, add-zero, not-le-of-lt, div-add-mod', div-lt-iff-lt-mul, mul-le-mul-left, eq-of-mul-eq-mul-right, zero-mod}
 use native.Mathlib.Omega.{arith}
-use mathlib.Core.Bool.{Bool, true, false, not, cond, true≢false, _&&_}
+use mathlib.Core.Bool.{Bool, true, false, true≢false}
 use borrow.Author.Tests.{ltb-true, ltb-false, le-ltb, eqb-true, eq-eqb, leb-true, leb-false}
 use lib.IntN.{ℤ, pos, negsuc}
-use lib.Dec.{T, ltb, leb, eqb, lit≤, ltb→lt, leb→le}
+use lib.Dec.{T, ltb, leb, lit≤}
 use lib.Pow.{pow-add, pow-pos, pow-mono, pow-lt, shl-lt}
 use lib.Ieee.{Float, nan, inf, fin, Format, binary64, prec, emax, low, up, down, round, fits, lt, neg, ofInt}
-use lib.Ieee.Fits.{up-pos, down-pos, round-fits, reach, and-l, and-r}
+use lib.Ieee.Fits.{up-pos, down-pos, round-fits, reach}
 use lib.Ieee.Exact.{HasValue, round-exact}
 use lib.Ieee.Back.{round-whole}
 use lib.Ieee.Scale.{round-same, finite}

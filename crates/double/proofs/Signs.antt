@@ -4,7 +4,7 @@ use Prim.Native.Nat.{ℕ, zero, suc, _+_, _-_, _*_, _/_, _%_, _^_, compare}
 use mathlib.Core.Bool.{Bool, true, false, not, cond}
 use lib.Dec.{ltb}
 use lib.Ieee.{Float, nan, inf, fin, Format, prec, low, emax, size, nearest, odd, units, round, neg}
-use lib.Ieee.Fits.{core, round-is}
+use lib.Ieee.Fits.{round-is}
 
 -- the sign, and none of a NaN
 abbrev pub minus? : Float → Bool

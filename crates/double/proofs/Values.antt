@@ -1,6 +1,6 @@
 -- Doubles that have a whole or a fractional value exactly: their floor, their difference and how they compare. Assumes nothing.
-use mathlib.Core.Path.{_≡_, refl, sym, ap, _∙_, subst}
-use Prim.Native.Nat.{ℕ, _+_, _-_, _*_, _/_, _%_, _^_, _≤_, _<_, min}
+use mathlib.Core.Path.{_≡_, refl, sym, ap, _∙_}
+use Prim.Native.Nat.{ℕ, _-_, _*_, _/_, _≤_, _<_, min}
 use native.Mathlib.Nat.{mul-one, mul-comm, mul-assoc, mul-right-comm, mul-pos, mul-sub, mul-mul-mul-comm, zero-lt-suc, not-le-of-lt, mul-le-mul-right, mul-lt-mul-of-pos-right, lt-of-mul-lt-mul-right, lt-of-le-of-lt, lt-of-lt-of-le, le-of-eq, div-one}
 use native.Mathlib.Omega.{arith}
 use mathlib.Core.Bool.{Bool, true, false, not, cond, true≢false}

@@ -1,9 +1,9 @@
 -- The whole numbers near a double, by the tests that code makes. Assumes nothing.
-use mathlib.Core.Path.{_≡_, refl, sym, ap, _∙_, subst}
+use mathlib.Core.Path.{_≡_, refl, sym, ap, _∙_}
 use Prim.Native.Nat.{ℕ, zero, suc, _+_, _*_, _/_, _%_, _≤_, _<_, min, compare, Ordering, Ordering·lt, Ordering·eq, Ordering·gt}
-use native.Mathlib.Nat.{zero-mul, mul-one, mul-pos, zero-lt-suc, zero-div, zero-mod}
+use native.Mathlib.Nat.{zero-mul, mul-pos, zero-lt-suc, zero-div, zero-mod}
 use native.Mathlib.Omega.{arith}
-use mathlib.Core.Bool.{Bool, true, false, not, cond, true≢false}
+use mathlib.Core.Bool.{Bool, true, false, cond, true≢false}
 use borrow.Author.Tests.{ltb-false, eq-eqb, ne-eqb}
 use lib.IntN.{ℤ, pos}
 use lib.Dec.{ltb, eqb, lit<}

@@ -1,3 +1,4 @@
+-- The definitions that the contracts of `double` cite, and those of the crates above it.
 pub mod Whole
 pub mod Parts
 pub mod Seconds

@@ -1,6 +1,6 @@
 -- Whole numbers near a double: toward zero, up, half away from zero; and whether it is one. Definitions only.
 use Prim.Native.Nat.{ℕ, _+_, _*_, _/_, _%_, min, compare, Ordering, Ordering·lt, Ordering·eq, Ordering·gt}
-use mathlib.Core.Bool.{Bool, true, false, cond}
+use mathlib.Core.Bool.{Bool, false, cond}
 use lib.Dec.{eqb}
 use lib.Ieee.{Float, nan, inf, fin, binary64, up, down, round}
 

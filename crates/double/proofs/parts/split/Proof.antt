@@ -1,8 +1,6 @@
 -- `double::parts::split` meets its contract: the scale says how many of the digits stand after the point. Assumes nothing.
-use mathlib.Core.Path.{sym, subst, refl}
 use native.Mathlib.Omega.{arith}
 use borrow.Author.Needs.{needs}
-use borrow.Author.Tests.{ne-eqb, eq-eqb}
 use Rattle.double.proofs.Splits.{split-tiny, split-mid, split-high, split-over, unit-is, unit-pos}
 use Rattle.double.proofs.parts.split.Statement.{statement}
 use Rattle.double.proofs.parts.split.Tie as tie

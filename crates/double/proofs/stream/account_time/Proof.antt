@@ -1,7 +1,7 @@
 -- `double::stream::account_time` meets its contract: the operations in their order. Assumes nothing.
 use mathlib.Core.Path.{_∙_, ap}
 use borrow.Author.Needs.{needs}
-use lib.Ieee.{Float, ofBits, mul, div, binary64}
+use lib.Ieee.{Float, ofBits, div, binary64}
 use Rattle.double.specs.Seconds.{nanosOf}
 use Rattle.double.specs.Stream.{accountTime}
 use Rattle.double.proofs.stream.account_time.Statement.{statement}

@@ -1,5 +1,5 @@
 -- `double::time::nanoseconds` meets its contract: the digits and scale of what is above 0 and finite, and the ends of the range. Assumes nothing.
-use mathlib.Core.Path.{_≡_, _∙_, sym, subst}
+use mathlib.Core.Path.{_∙_, sym, subst}
 use native.Mathlib.Omega.{arith}
 use borrow.Author.Needs.{needs}
 use lib.Dec.{T}

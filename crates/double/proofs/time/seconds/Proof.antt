@@ -1,5 +1,5 @@
 -- `double::time::seconds` meets its contract: both counts are doubles exactly. Assumes nothing.
-use Prim.Native.Nat.{ℕ, _/_, _%_, _<_, _≤_}
+use Prim.Native.Nat.{_/_, _%_}
 use native.Mathlib.Omega.{arith}
 use mathlib.Core.Path.{refl}
 use lib.Dec.{le→leb}

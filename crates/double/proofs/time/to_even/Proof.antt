@@ -1,5 +1,5 @@
 -- `double::time::to_even` meets its contract: more or less than a half, and at a half the even one. Assumes nothing.
-use mathlib.Core.Path.{_≡_, _∙_, sym}
+use mathlib.Core.Path.{_∙_}
 use native.Mathlib.Omega.{arith}
 use borrow.Author.Needs.{needs}
 use Rattle.double.proofs.Nanos.{even-low, even-high, even-more, even-tie, odd-tie}

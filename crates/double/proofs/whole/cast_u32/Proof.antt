@@ -1,8 +1,6 @@
 -- `double::whole::cast_u32` meets its contract: the floor, cut at the largest u32. Assumes nothing.
-use mathlib.Core.Path.{_≡_, sym, subst, _∙_, ap}
 use native.Mathlib.Omega.{arith}
 use borrow.Author.Needs.{needs}
-use lib.Ieee.{toUnsigned}
 use Rattle.double.proofs.Floors.{cast-narrow, cast-is-floor}
 use Rattle.double.proofs.whole.cast_u32.Statement.{statement}
 use Rattle.double.proofs.whole.cast_u32.Tie as tie

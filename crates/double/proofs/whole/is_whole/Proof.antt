@@ -1,5 +1,5 @@
 -- `double::whole::is_whole` meets its contract: nothing is left of a finite number. Assumes nothing.
-use mathlib.Core.Path.{_≡_, _∙_, sym, subst}
+use mathlib.Core.Path.{_∙_, sym, subst}
 use lib.Dec.{T}
 use borrow.Author.Needs.{needs}
 use Rattle.double.proofs.Wholes.{whole-at, whole-none}
