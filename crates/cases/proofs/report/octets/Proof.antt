@@ -1,0 +1,56 @@
+-- `cases::report::octets` goes through its slice once. Assumes nothing.
+use mathlib.Core.Path.{_≡_}
+use borrow.Author.Needs.{needs}
+use Prim.Native.Nat.{_-_, _≤_}
+use lib.ListN.{length}
+use Rattle.cases.proofs.report.octets.Statement.{statement}
+use Rattle.cases.proofs.report.octets.Tie as tie
+
+abbrev Inv-loop : tie.InvT-loop
+Inv-loop p i₀ i-end i = (i ≤ length p) × (i-end ≡ length p)
+
+abbrev μ-loop : tie.MeasureT-loop
+μ-loop p i₀ i-end i = length p - i
+
+slice-aggregate-write : tie.Need-slice-aggregate-write Inv-loop μ-loop
+slice-aggregate-write c = search needs
+
+write-requires : tie.Need-write-requires Inv-loop μ-loop
+write-requires c κs = search needs
+
+loop-holds : tie.Need-loop-holds Inv-loop μ-loop
+loop-holds c = search needs
+
+shared-slice-read-octet : tie.Need-shared-slice-read-octet Inv-loop μ-loop
+shared-slice-read-octet c = search needs
+
+octet-requires : tie.Need-octet-requires Inv-loop μ-loop
+octet-requires c κs = search needs
+
+add-i : tie.Need-add-i Inv-loop μ-loop
+add-i c = search needs
+
+loop-less : tie.Need-loop-less Inv-loop μ-loop
+loop-less c = search needs
+
+loop-again : tie.Need-loop-again Inv-loop μ-loop
+loop-again c = search needs
+
+returns : tie.Need-returns Inv-loop μ-loop
+returns c = search needs
+
+pub octets-spec : {M : Type 1} → statement M
+octets-spec =
+    tie.close
+    (tie.spec
+    Inv-loop
+    μ-loop
+    slice-aggregate-write
+    write-requires
+    loop-holds
+    shared-slice-read-octet
+    octet-requires
+    add-i
+    loop-less
+    loop-again
+    returns)

@@ -1,0 +1,73 @@
+// The functions of double that a case can name.
+use super::answer::Answer;
+use double::stream;
+use double::time;
+use double::whole;
+
+pub const TABLE: [u8; 174] = *b"is_finite 1\n\
+    is_whole 1\n\
+    floor_u64 1\n\
+    ceil_u64 1\n\
+    round_u64 1\n\
+    cast_u32 1\n\
+    round 1\n\
+    seconds 1\n\
+    nanoseconds 1\n\
+    jump_limit 2\n\
+    restart_missing 2\n\
+    account_time 2\n\
+    covered_time 2\n\
+    below_half 2";
+
+// The double of a pattern. Every NaN's pattern gives the one NaN that the language has.
+fn double_of(bits: u64) -> f64 {
+    if bits % 9223372036854775808 > 9218868437227405312 {
+        return 0.0 / 0.0;
+    }
+    f64::from_bits(bits)
+}
+
+// A NaN is told by one pattern, whichever it has.
+fn of_double(x: f64) -> Answer {
+    if x != x {
+        return Answer::Double(9221120237041090560);
+    }
+    Answer::Double(f64::to_bits(x))
+}
+
+fn of_bool(b: bool) -> Answer {
+    Answer::Number(if b { 1 } else { 0 })
+}
+
+fn of_whole(row: usize, x: f64) -> Answer {
+    match row {
+        0 => of_bool(whole::is_finite(x)),
+        1 => of_bool(whole::is_whole(x)),
+        2 => Answer::Number(whole::floor_u64(x)),
+        3 => Answer::Number(whole::ceil_u64(x)),
+        4 => Answer::Number(whole::round_u64(x)),
+        5 => Answer::Number(whole::cast_u32(x) as u64),
+        6 => of_double(whole::round(x)),
+        8 => Answer::Number(time::nanoseconds(x)),
+        _ => Answer::Nothing,
+    }
+}
+
+fn of_stream(row: usize, n: u64, rate: f64) -> Answer {
+    match row {
+        7 => of_double(time::seconds(n)),
+        9 => Answer::Number(stream::jump_limit(n, rate)),
+        10 => Answer::Number(stream::restart_missing(n, rate)),
+        11 => Answer::Number(stream::account_time(n, rate)),
+        12 => Answer::Number(stream::covered_time(n, rate)),
+        13 => of_bool(stream::below_half(n, rate)),
+        _ => Answer::Nothing,
+    }
+}
+
+pub fn answer(row: usize, n: [u64; 4]) -> Answer {
+    match row {
+        7 | 9..=13 => of_stream(row, n[0], double_of(n[1])),
+        _ => of_whole(row, double_of(n[0])),
+    }
+}
