@@ -1,0 +1,505 @@
+#!/usr/bin/env python3
+"""Prints the cases that the program `cases` runs: python3 tools/double_cases.py > crates/cases/stdin
+
+Every expected value is worked out with exact fractions, from document 01 (Numbers in the stream) and from IEEE 754: a
+double is a sign and a fraction, and each operation is done exactly and rounded once, to nearest, ties to even, at 53
+bits, with subnormals and overflow. No float of Python's takes part.
+
+With --check it prints no cases: it compares these operations with Python's floats on random patterns.
+"""
+import random
+import sys
+from fractions import Fraction
+from math import ceil, floor
+
+MOST = 2**64 - 1
+TOP = 2**63
+RATES = [48000, 96000, 192000, 384000, 768000, 1536000]
+
+
+# Doubles: 'nan', or a sign (0 or 1) and a size, which is a fraction or 'inf'.
+
+NAN = 'nan'
+
+
+def nearest(sign, size):
+    """The double nearest to a fraction that is not negative."""
+    if size == 0:
+        return (sign, Fraction(0))
+    # size lies in [2^e, 2^(e + 1)); below 2^-1022 the last digit stays at 2^-1074
+    e = size.numerator.bit_length() - size.denominator.bit_length()
+    if Fraction(2) ** e > size:
+        e -= 1
+    last = Fraction(2) ** (max(e, -1022) - 52)
+    size = even(size / last) * last
+    return (sign, 'inf' if size >= Fraction(2) ** 1024 else size)
+
+
+def even(q):
+    """The whole number nearest to a fraction, ties to even."""
+    low = floor(q)
+    rest = q - low
+    return low + (1 if rest > Fraction(1, 2) or rest == Fraction(1, 2) and low % 2 == 1 else 0)
+
+
+def of_bits(b):
+    sign, e, t = b >> 63, b >> 52 & 2047, b & 2**52 - 1
+    if e == 2047:
+        return NAN if t else (sign, 'inf')
+    if e == 0:
+        return (sign, Fraction(t, 2**1074))
+    return (sign, (2**52 + t) * Fraction(2) ** (e - 1075))
+
+
+def bits(x):
+    """The pattern of a double; every NaN has the one that a case expects."""
+    if x == NAN:
+        return 0x7ff8000000000000
+    sign, size = x
+    if size == 'inf':
+        return sign << 63 | 2047 << 52
+    units = size * 2**1074
+    assert units.denominator == 1
+    digits, e = units.numerator, 0
+    while digits >= 2**53:
+        digits, e = digits // 2, e + 1
+    # a normal number's exponent is one more, and its first digit, which is not written, adds that one
+    return (sign << 63) + (e << 52) + digits
+
+
+def of(n):
+    """A number as a double: a fraction, or a whole number."""
+    return nearest(1 if n < 0 else 0, abs(Fraction(n)))
+
+
+def signed(x):
+    return -x[1] if x[0] else x[1]
+
+
+def add(x, y):
+    if NAN in (x, y):
+        return NAN
+    if 'inf' in (x[1], y[1]):
+        both = x[1] == y[1] and x[0] != y[0]
+        return NAN if both else x if x[1] == 'inf' else y
+    s = signed(x) + signed(y)
+    if s == 0:
+        return (x[0] & y[0], Fraction(0))
+    return of(s)
+
+
+def negated(x):
+    return x if x == NAN else (1 - x[0], x[1])
+
+
+def mul(x, y):
+    if NAN in (x, y):
+        return NAN
+    sign = x[0] ^ y[0]
+    if 'inf' in (x[1], y[1]):
+        return NAN if 0 in (x[1], y[1]) else (sign, 'inf')
+    return nearest(sign, x[1] * y[1])
+
+
+def div(x, y):
+    if NAN in (x, y):
+        return NAN
+    sign = x[0] ^ y[0]
+    if x[1] == 'inf' or y[1] == 0:
+        return NAN if x[1] == y[1] else (sign, 'inf')
+    return nearest(sign, Fraction(0) if y[1] == 'inf' else x[1] / y[1])
+
+
+def less(x, y):
+    if NAN in (x, y):
+        return False
+    far = Fraction(2) ** 2000
+    value = [-far if v[0] else far if v[1] == 'inf' else 0 for v in (x, y)]
+    value = [w if v[1] == 'inf' else signed(v) for v, w in zip((x, y), value)]
+    return value[0] < value[1]
+
+
+# What the functions are to give.
+
+def whole(x, take):
+    """take of a double as a u64: 0 of a NaN and of what is negative, and at most the largest."""
+    if x == NAN or x[0]:
+        return 0
+    return MOST if x[1] == 'inf' else min(take(x[1]), MOST)
+
+
+def away(size):
+    """Half away from zero, of a size."""
+    return floor(size + Fraction(1, 2))
+
+
+def rounded(x):
+    if x == NAN or x[1] == 'inf':
+        return x
+    return nearest(x[0], Fraction(away(x[1])))
+
+
+def seconds(ns):
+    return add(of(ns // 10**9), div(of(ns % 10**9), of(10**9)))
+
+
+def nanoseconds(x):
+    return whole(x, lambda size: even(size * 10**9))
+
+
+SLACK = nearest(0, Fraction(101, 100))
+
+
+def jump_limit(ns, rate):
+    return limit(mul(mul(seconds(ns), div(rate, of(238))), SLACK))
+
+
+def limit(lost):
+    return min(whole(lost, ceil) + 8192, MOST)
+
+
+def restart_missing(ns, rate):
+    return whole(add(rounded(mul(seconds(ns), rate)), of(-238)), floor)
+
+
+def account_time(n, rate):
+    return nanoseconds(div(of(n), rate))
+
+
+def covered_time(n, rate):
+    return nanoseconds(div(mul(of(n), of(238)), rate))
+
+
+def below_half(n, rate):
+    return int(less(of(n), div(rate, of(2))))
+
+
+OF_DOUBLE = {
+    'is_finite': lambda x: int(x != NAN and x[1] != 'inf'),
+    'is_whole': lambda x: int(x != NAN and x[1] != 'inf' and x[1].denominator == 1),
+    'floor_u64': lambda x: whole(x, floor),
+    'ceil_u64': lambda x: whole(x, ceil),
+    'round_u64': lambda x: whole(x, away),
+    'cast_u32': lambda x: min(whole(x, floor), 2**32 - 1),
+    'round': rounded,
+    'nanoseconds': nanoseconds,
+}
+OF_STREAM = {
+    'jump_limit': jump_limit,
+    'restart_missing': restart_missing,
+    'account_time': account_time,
+    'covered_time': covered_time,
+    'below_half': below_half,
+}
+
+
+# Lines.
+
+SEEN = set()
+
+
+def pattern(b):
+    return f'0x{b:016x}'
+
+
+def line(name, args, expected, why=''):
+    text = f'{name} {" ".join(args)} = {expected}'
+    if text not in SEEN:
+        SEEN.add(text)
+        print(text + (f'  # {why}' if why else ''))
+
+
+def of_double(name, b, why=''):
+    r = OF_DOUBLE[name](of_bits(b))
+    line(name, [pattern(b)], r if isinstance(r, int) else pattern(bits(r)), why)
+
+
+def of_stream(name, n, rate, why=''):
+    """rate is a number, or the pattern of a double as a str."""
+    b = int(rate, 16) if isinstance(rate, str) else bits(of(rate))
+    line(name, [str(n), pattern(b)], OF_STREAM[name](n, of_bits(b)), why)
+
+
+def of_seconds(ns, why=''):
+    line('seconds', [str(ns)], pattern(bits(seconds(ns))), why)
+
+
+def title(text):
+    print(f'\n# {text}')
+
+
+def head():
+    print('''# Cases of doubles and octets: a function, what it is given, and what it is to give. A number is decimal, a double stands by its
+# bits, octets stand after x:. Made by `python3 tools/double_cases.py > crates/cases/stdin`, which works every expected value out
+# with exact fractions, from document 01 and IEEE 754, and runs none of the code that is tried here.''')
+
+
+# Patterns.
+
+SPECIAL = [
+    (0, 'zero'), (TOP, 'minus zero'),
+    (1, 'smallest subnormal'), (TOP + 1, 'minus that'),
+    (2**52 - 1, 'largest subnormal'), (2**52, 'smallest normal'), (TOP + 2**52, 'minus that'),
+    (0x7fefffffffffffff, 'largest'),
+    (0x7ff0000000000000, 'infinity'), (0xfff0000000000000, 'minus infinity'),
+    (0x7ff8000000000000, 'NaN'), (0x7ff0000000000001, 'NaN'), (0xffffffffffffffff, 'NaN'),
+]
+NEGATIVE = [Fraction(-3, 10), Fraction(-1, 2), Fraction(-3, 2), Fraction(-5, 2), -(2**52) - 1]
+EDGES = [
+    (Fraction(1, 2), '0.5'), (1, '1'), (Fraction(3, 2), '1.5'), (Fraction(5, 2), '2.5'),
+    (2**52 - Fraction(1, 2), '2^52 - 0.5'), (2**52, '2^52'), (2**53, '2^53'), (2**63, '2^63'), (2**64, '2^64'),
+]
+U32_EDGES = [(2**31, '2^31'), (2**32 - 1, '2^32 - 1'), (2**32 - Fraction(1, 2), '2^32 - 0.5'), (2**32, '2^32')]
+
+EDGES_OF = {'is_finite': EDGES[:1], 'is_whole': EDGES[:7], 'round': EDGES[:7], 'cast_u32': EDGES[:4] + U32_EDGES}
+
+
+def around(value, name):
+    b = bits(of(value))
+    assert signed(of_bits(b)) == value
+    return [(b - 1, f'below {name}'), (b, name), (b + 1, f'above {name}')]
+
+
+def random_double(r, low, high):
+    """A pattern with an exponent between two powers of two, negative one time in four."""
+    return r.choice([0, 0, 0, TOP]) + (r.randint(low, high) + 1023 << 52) + r.getrandbits(52)
+
+
+def unary(r):
+    for name in OF_DOUBLE:
+        if name == 'nanoseconds':
+            continue
+        title(name)
+        edges = EDGES_OF.get(name, EDGES)
+        for b, why in SPECIAL + [(bits(of(v)), '') for v in NEGATIVE]:
+            of_double(name, b, why)
+        for b, why in [p for v, s in edges for p in around(v, s)]:
+            of_double(name, b, why)
+        for _ in range(3):
+            of_double(name, random_double(r, -3, 66))
+
+
+def times(r):
+    title('seconds')
+    for ns in [0, 1, 2, 10**8, 499999999, 5 * 10**8, 999999999, 10**9, 10**9 + 1, 1500000000, 1234567890123, 86400 * 10**9]:
+        of_seconds(ns)
+    for ns in [2**53 - 1, 2**53, 2**53 + 1, 2**63 - 1, 2**63, 2**63 + 1, MOST - 1, MOST]:
+        of_seconds(ns)
+    ns = first(r, lambda: r.getrandbits(50), lambda n: seconds(n) != nearest(0, Fraction(n, 10**9)))
+    of_seconds(ns, 'the sum of two rounded parts, not the fraction rounded once')
+    for _ in range(5):
+        of_seconds(r.getrandbits(r.randint(20, 64)))
+    title('nanoseconds')
+    for b, why in SPECIAL + [(bits(of(v)), '') for v in NEGATIVE[:3]]:
+        of_double('nanoseconds', b, why)
+    for j in [1, 3, 5, 7, 1025, 1027, 2**34 + 1, 2**34 + 3]:
+        odd = even(Fraction(j * 5**9, 2)) * 2 > j * 5**9
+        of_double('nanoseconds', bits(of(Fraction(j, 1024))), 'a tie, up from odd' if odd else 'a tie, down to even')
+    for v, name in [(1, '0.5 ns'), (2, '1 ns'), (3, '1.5 ns'), (5, '2.5 ns'), (2 * MOST, '2^64 - 1 ns'), (2 * MOST + 1, '2^64 - 0.5 ns')]:
+        b = bits(of(Fraction(v, 2 * 10**9)))
+        for k in [-1, 0, 1]:
+            of_double('nanoseconds', b + k, f'near {name}')
+    seams(r)
+    x = first(r, lambda: random_double(r, 0, 33) % TOP, lambda b: nanoseconds(of_bits(b)) != even(mul(of_bits(b), of(10**9))[1]))
+    of_double('nanoseconds', x, 'the product with 1e9 rounded to a double would give another number')
+    for _ in range(5):
+        of_double('nanoseconds', random_double(r, -31, 34))
+
+
+def seams(r):
+    """Doubles of 53 digits at 2^(k - 1074), whose nanoseconds end in a chosen part: none, the least, about a half."""
+    for k in [990, 991, 1046, 1047, 1048, 1049, 1050]:
+        places = 1074 - 9 - k
+        half = 2 ** (places - 1)
+        ends = [(0, 'whole'), (1, 'the least part'), (half - 1, 'below a half'), (half, 'a half'), (half + 1, 'above a half')]
+        for part, why in ends if k > 1000 else ends[1:2]:
+            inverse = pow(5**9, -1, 2**places)
+            step = 2**min(places, 53)
+            base = part * inverse % 2**places
+            if base >= 2**53:
+                base = 2**52 + r.getrandbits(52)
+                why = 'any part'
+            d = base + step * r.randint(-(-max(2**52 - base, 0) // step), (2**53 - 1 - base) // step)
+            of_double('nanoseconds', bits((0, d * Fraction(2) ** (k - 1074))), f'scale {k}, {why}')
+
+
+def first(r, draw, holds):
+    """The first drawn value at which something holds that the case is to show."""
+    while True:
+        x = draw()
+        if holds(x):
+            return x
+
+
+ODD_RATES = ['0000000000000000', '8000000000000000', 'c0e7700000000000', '7ff8000000000000', '7ff0000000000000', 'fff0000000000000']
+ODD_VALUES = [Fraction(1, 10**300), Fraction(88201, 2)]
+NS = [0, 1, 999999999, 10**9, 1234567890123, 86400 * 10**9, 2**63, MOST]
+
+
+def streams(r):
+    for name in OF_STREAM:
+        title(name)
+        ns = NS if name in ('jump_limit', 'restart_missing') else [0, 1, 238, 23800, 48000, 2**53 + 1, 2**63, MOST]
+        for n in ns:
+            of_stream(name, n, 48000)
+        for n in ns[3:]:
+            of_stream(name, n, 1536000)
+        for rate in RATES[1:] + ODD_RATES + ODD_VALUES:
+            of_stream(name, ns[4], rate)
+        for rate in ODD_RATES[::2]:
+            of_stream(name, 0, rate)
+        for _ in range(4):
+            of_stream(name, r.getrandbits(r.randint(20, 64)), r.choice(RATES))
+        shown[name](r)
+
+
+def show_jump_limit(r):
+    def twice(ns, rate):
+        return limit(mul(div(mul(seconds(ns), of(rate)), of(238)), SLACK))
+
+    def slack_first(ns, rate):
+        return limit(mul(seconds(ns), div(mul(of(rate), SLACK), of(238))))
+
+    # where the exact product is a whole number, and at times so long that the last digit of a double tells
+    draws = [lambda: (r.randint(1, 10**6) * 119 * 10**7, r.choice(RATES)), lambda: (r.randint(2**62, MOST), 1536000)]
+    forms = [(twice, '(seconds * rate) / 238 * 1.01', draws), (slack_first, 'seconds * (rate * 1.01 / 238)', draws[1:])]
+    for other, form, ways in forms:
+        for draw in ways:
+            ns, rate = first(r, draw, lambda d: other(*d) != jump_limit(d[0], of(d[1])))
+            of_stream('jump_limit', ns, rate, f'{form} would give {other(ns, rate)}')
+
+
+def show_restart(r):
+    def after_cast(ns):
+        return max(whole(rounded(mul(seconds(ns), of(1536000))), floor) - 238, 0)
+
+    def to_even(ns):
+        return max(even(signed(mul(seconds(ns), of(48000)))) - 238, 0)
+
+    for _ in range(2):
+        ns = first(r, lambda: r.randint(12 * 10**18, MOST), lambda n: after_cast(n) != restart_missing(n, of(1536000)))
+        of_stream('restart_missing', ns, 1536000, f'past 2^54 samples: 238 subtracted after the cast would give {after_cast(ns)}')
+    for _ in range(2):
+        ns = first(r, lambda: 31250 * r.randint(160, 10**4), lambda n: to_even(n) != restart_missing(n, of(48000)))
+        of_stream('restart_missing', ns, 48000, f'a half: to even it would give {to_even(ns)}')
+    of_stream('restart_missing', 31250, 48000, '1.5 samples')
+    for ns in [4958333, 4958334, 4979166, 4979167]:
+        of_stream('restart_missing', ns, 48000, 'about 238 samples and 239')
+
+
+def show_account(r):
+    def once(n):
+        return even(Fraction(n * 10**9, 1536000))
+
+    n = first(r, lambda: r.getrandbits(54), lambda v: account_time(v, of(1536000)) != once(v))
+    of_stream('account_time', n, 1536000, f'the quotient is a double before it is time: else {once(n)}')
+
+
+def show_covered(r):
+    def other(n):
+        return nanoseconds(mul(of(n), div(of(238), of(48000))))
+
+    n = first(r, lambda: r.getrandbits(40), lambda v: other(v) != covered_time(v, of(48000)))
+    of_stream('covered_time', n, 48000, f'n * (238 / rate) would give {other(n)}')
+
+
+def show_below_half(r):
+    for n in [23999, 24000, 24001]:
+        of_stream('below_half', n, 48000)
+    for n in [767999, 768000]:
+        of_stream('below_half', n, 1536000)
+    of_stream('below_half', 2**53 + 1, 2**54 + 4, 'n is rounded to a double, down to even')
+    of_stream('below_half', 2**53 + 1, 2**54, 'so it is not below 2^53')
+
+
+shown = {
+    'jump_limit': show_jump_limit,
+    'restart_missing': show_restart,
+    'account_time': show_account,
+    'covered_time': show_covered,
+    'below_half': show_below_half,
+}
+
+
+# 01's edges, by the numbers that it gives: 48 kHz, and the gaps on either side of half of 1536 kHz.
+DOCUMENTED = [
+    ('jump_limit', 0, 48000, 8192), ('restart_missing', 0, 48000, 0), ('restart_missing', 10**9, 48000, 47762),
+    ('below_half', 23800, 48000, 1), ('below_half', 24038, 48000, 0),
+    ('below_half', 767788, 1536000, 1), ('below_half', 768026, 1536000, 0),
+]
+
+
+def documented():
+    title("document 01's own edges")
+    for name, n, rate, number in DOCUMENTED:
+        assert OF_STREAM[name](n, of(rate)) == number
+        of_stream(name, n, rate)
+
+
+def octets():
+    title('octets: at the first, a middle and the last place')
+    p = [0x01, 0x80, 0xff, 0x00, 0x7f, 0xfe, 0x10]
+    for wide, name in [(2, 'u16'), (3, 'u24'), (4, 'u32')]:
+        for at in [0, 2, len(p) - wide]:
+            n = sum(v * 256 ** (wide - 1 - i) for i, v in enumerate(p[at:at + wide]))
+            line(f'get_{name}', [str(at), word(p)], n)
+        for at, v in [(0, 0), (1, 0x12345678 % 256**wide), (len(p) - wide, 256**wide - 1)]:
+            line(f'put_{name}', [str(at), str(v), word(p)], word(put(p, at, wide, v)))
+    line('put_u24', ['1', str(0x12345678), word(p)], word(put(p, 1, 3, 0x345678)), 'the lower 24 bits')
+    line('put_u16', ['0', '43981', 'x:0000'], 'x:abcd', 'nothing beside it')
+    line('get_u32', ['0', 'x:ffffffff'], MOST >> 32)
+    for n in [0, 1, 4, len(p)]:
+        line('clear', [str(n), word(p)], word([0] * n + p[n:]))
+    line('clear', ['0', 'x:'], 'x:', 'no octets')
+
+
+def word(p):
+    return 'x:' + ''.join(f'{v:02x}' for v in p)
+
+
+def put(p, at, wide, v):
+    return p[:at] + [v // 256 ** (wide - 1 - i) % 256 for i in range(wide)] + p[at + wide:]
+
+
+def check():
+    """The operations here against Python's floats, by their patterns, on random patterns of every exponent and near."""
+    import struct
+
+    def float_of(b):
+        return struct.unpack('<d', struct.pack('<Q', b))[0]
+
+    def told(f):
+        return bits(NAN) if f != f else struct.unpack('<Q', struct.pack('<d', f))[0]
+
+    r = random.Random(2)
+    pairs = [(add, lambda a, b: a + b), (mul, lambda a, b: a * b), (less, lambda a, b: a < b)]
+    for i in range(40000):
+        a = r.getrandbits(64) if i % 4 else r.choice(SPECIAL)[0]
+        b = r.getrandbits(64) if i % 3 else a ^ r.getrandbits(r.choice([1, 8, 54, 64]))
+        x, y, u, v = of_bits(a), of_bits(b), float_of(a), float_of(b)
+        assert bits(x) == told(u)
+        for ours, theirs in pairs[:2]:
+            assert bits(ours(x, y)) == told(theirs(u, v)), (hex(a), hex(b))
+        assert less(x, y) == (u < v) and bits(add(x, negated(y))) == told(u - v)
+        if v != 0:
+            assert bits(div(x, y)) == told(u / v), (hex(a), hex(b))
+        n = r.getrandbits(r.randint(1, 64))
+        assert bits(of(n)) == told(float(n))
+        assert bits(nearest(0, Fraction(n, 10**9))) == told(n / 10**9)
+    print('the same on 40000 pairs of patterns')
+
+
+def main():
+    if sys.argv[1:] == ['--check']:
+        check()
+        return
+    r = random.Random(1)
+    head()
+    octets()
+    documented()
+    unary(r)
+    times(r)
+    streams(r)
+
+
+main()
