@@ -5,9 +5,10 @@ Every expected value is worked out with exact fractions, from document 01 (Numbe
 double is a sign and a fraction, and each operation is done exactly and rounded once, to nearest, ties to even, at 53
 bits, with subnormals and overflow. No float of Python's takes part.
 
-With --check it prints no cases: it compares these operations with Python's floats on random patterns.
+With --check it prints no cases: it compares these operations with Python's floats on random patterns. struct serves that alone.
 """
 import random
+import struct
 import sys
 from fractions import Fraction
 from math import ceil, floor
@@ -110,13 +111,13 @@ def div(x, y):
     return nearest(sign, Fraction(0) if y[1] == 'inf' else x[1] / y[1])
 
 
+def placed(x):
+    """A double that is no NaN as a fraction; an infinity lies past every other."""
+    return signed((x[0], Fraction(2) ** 2000)) if x[1] == 'inf' else signed(x)
+
+
 def less(x, y):
-    if NAN in (x, y):
-        return False
-    far = Fraction(2) ** 2000
-    value = [-far if v[0] else far if v[1] == 'inf' else 0 for v in (x, y)]
-    value = [w if v[1] == 'inf' else signed(v) for v, w in zip((x, y), value)]
-    return value[0] < value[1]
+    return NAN not in (x, y) and placed(x) < placed(y)
 
 
 # What the functions are to give.
@@ -229,9 +230,9 @@ def title(text):
 
 
 def head():
-    print('''# Cases of doubles and octets: a function, what it is given, and what it is to give. A number is decimal, a double stands by its
-# bits, octets stand after x:. Made by `python3 tools/double_cases.py > crates/cases/stdin`, which works every expected value out
-# with exact fractions, from document 01 and IEEE 754, and runs none of the code that is tried here.''')
+    print('''# Cases of doubles and octets: a function, what it is given, and what it is to give. A number is decimal, a double
+# stands by its bits, octets stand after x:. Made by `python3 tools/double_cases.py > crates/cases/stdin`, which works
+# every expected value out with exact fractions, from document 01 and IEEE 754, and runs none of the code tried here.''')
 
 
 # Patterns.
@@ -285,7 +286,7 @@ def times(r):
         of_seconds(ns)
     for ns in [2**53 - 1, 2**53, 2**53 + 1, 2**63 - 1, 2**63, 2**63 + 1, MOST - 1, MOST]:
         of_seconds(ns)
-    ns = first(r, lambda: r.getrandbits(50), lambda n: seconds(n) != nearest(0, Fraction(n, 10**9)))
+    ns = first(r, lambda: r.randint(10**9, 4 * 10**9), lambda n: seconds(n) != nearest(0, Fraction(n, 10**9)))
     of_seconds(ns, 'the sum of two rounded parts, not the fraction rounded once')
     for _ in range(5):
         of_seconds(r.getrandbits(r.randint(20, 64)))
@@ -295,7 +296,7 @@ def times(r):
     for j in [1, 3, 5, 7, 1025, 1027, 2**34 + 1, 2**34 + 3]:
         odd = even(Fraction(j * 5**9, 2)) * 2 > j * 5**9
         of_double('nanoseconds', bits(of(Fraction(j, 1024))), 'a tie, up from odd' if odd else 'a tie, down to even')
-    for v, name in [(1, '0.5 ns'), (2, '1 ns'), (3, '1.5 ns'), (5, '2.5 ns'), (2 * MOST, '2^64 - 1 ns'), (2 * MOST + 1, '2^64 - 0.5 ns')]:
+    for v, name in [(1, '0.5 ns'), (2, '1 ns'), (3, '1.5 ns'), (5, '2.5 ns'), (2 * MOST, '2^64 - 1 ns')]:
         b = bits(of(Fraction(v, 2 * 10**9)))
         for k in [-1, 0, 1]:
             of_double('nanoseconds', b + k, f'near {name}')
@@ -307,20 +308,20 @@ def times(r):
 
 
 def seams(r):
-    """Doubles of 53 digits at 2^(k - 1074), whose nanoseconds end in a chosen part: none, the least, about a half."""
-    for k in [990, 991, 1046, 1047, 1048, 1049, 1050]:
-        places = 1074 - 9 - k
+    """Doubles of 53 digits at 2^(k - 1074), about the scales at which the code takes another way."""
+    for k in [990, 991]:
+        scaled(k, 2**52 + r.getrandbits(52), 'any part')
+    for k in range(1046, 1051):
+        # the nanoseconds d * 5^9 * 2^(k - 1065) have so many binary places: d is chosen by what stands in them
+        places = 1065 - k
         half = 2 ** (places - 1)
-        ends = [(0, 'whole'), (1, 'the least part'), (half - 1, 'below a half'), (half, 'a half'), (half + 1, 'above a half')]
-        for part, why in ends if k > 1000 else ends[1:2]:
-            inverse = pow(5**9, -1, 2**places)
-            step = 2**min(places, 53)
-            base = part * inverse % 2**places
-            if base >= 2**53:
-                base = 2**52 + r.getrandbits(52)
-                why = 'any part'
-            d = base + step * r.randint(-(-max(2**52 - base, 0) // step), (2**53 - 1 - base) // step)
-            of_double('nanoseconds', bits((0, d * Fraction(2) ** (k - 1074))), f'scale {k}, {why}')
+        for part, why in [(0, 'whole'), (1, 'the least part'), (half - 1, 'below a half'), (half, 'a half'), (half + 1, 'above a half')]:
+            low = part * pow(5**9, -1, 2**places) % 2**places
+            scaled(k, 2**52 + (r.getrandbits(52) >> places << places) + low, why)
+
+
+def scaled(k, d, why):
+    of_double('nanoseconds', bits((0, d * Fraction(2) ** (k - 1074))), f'scale {k}, {why}')
 
 
 def first(r, draw, holds):
@@ -461,32 +462,44 @@ def put(p, at, wide, v):
     return p[:at] + [v // 256 ** (wide - 1 - i) % 256 for i in range(wide)] + p[at + wide:]
 
 
-def check():
-    """The operations here against Python's floats, by their patterns, on random patterns of every exponent and near."""
-    import struct
+def float_of(b):
+    return struct.unpack('<d', struct.pack('<Q', b))[0]
 
-    def float_of(b):
-        return struct.unpack('<d', struct.pack('<Q', b))[0]
 
-    def told(f):
-        return bits(NAN) if f != f else struct.unpack('<Q', struct.pack('<d', f))[0]
+def told(f):
+    return bits(NAN) if f != f else struct.unpack('<Q', struct.pack('<d', f))[0]
 
-    r = random.Random(2)
-    pairs = [(add, lambda a, b: a + b), (mul, lambda a, b: a * b), (less, lambda a, b: a < b)]
-    for i in range(40000):
+
+def check_operations(r, turns):
+    for i in range(turns):
         a = r.getrandbits(64) if i % 4 else r.choice(SPECIAL)[0]
         b = r.getrandbits(64) if i % 3 else a ^ r.getrandbits(r.choice([1, 8, 54, 64]))
         x, y, u, v = of_bits(a), of_bits(b), float_of(a), float_of(b)
         assert bits(x) == told(u)
-        for ours, theirs in pairs[:2]:
-            assert bits(ours(x, y)) == told(theirs(u, v)), (hex(a), hex(b))
-        assert less(x, y) == (u < v) and bits(add(x, negated(y))) == told(u - v)
-        if v != 0:
-            assert bits(div(x, y)) == told(u / v), (hex(a), hex(b))
+        assert bits(add(x, y)) == told(u + v)
+        assert bits(add(x, negated(y))) == told(u - v)
+        assert bits(mul(x, y)) == told(u * v)
+        assert v == 0 or bits(div(x, y)) == told(u / v)
+        assert less(x, y) == (u < v)
+
+
+def check_functions(r, turns):
+    for _ in range(turns):
         n = r.getrandbits(r.randint(1, 64))
+        rate = r.choice(RATES)
+        u = float(n // 10**9) + float(n % 10**9) / 1e9
         assert bits(of(n)) == told(float(n))
-        assert bits(nearest(0, Fraction(n, 10**9))) == told(n / 10**9)
-    print('the same on 40000 pairs of patterns')
+        assert bits(seconds(n)) == told(u)
+        assert jump_limit(n, of(rate)) == ceil(u * (rate / 238) * 1.01) + 8192
+        assert restart_missing(n, of(rate)) == max(int(float(floor(Fraction(u * rate) + Fraction(1, 2))) - 238), 0)
+        assert below_half(n, of(rate)) == int(float(n) < rate / 2)
+
+
+def check():
+    r = random.Random(2)
+    check_operations(r, 20000)
+    check_functions(r, 20000)
+    print('as Python has it, on 20000 pairs of patterns and 20000 numbers')
 
 
 def main():

@@ -91,11 +91,12 @@ fn expected(line: &[u8], at: usize) -> Last
     }
 }
 
-fn later(is: bool, at: usize, end: usize) -> usize
+// The end of the octets' word, or where it would start.
+fn past_octets(has_octets: bool, at: usize, end: usize) -> usize
     requires { ⌜ at ≤ end ⌝ }
     ensures { λ r. ⌜ r ≤ end ⌝ }
 {
-    if is { end } else { at }
+    if has_octets { end } else { at }
 }
 
 // The octets go to room.
@@ -110,7 +111,7 @@ pub fn read(line: &[u8], room: &mut [u8]) -> Case
     let start = w.start;
     let end = w.end;
     let o = decode(&line[start..end], room);
-    let e = expected(line, later(o.fine, n.end, end));
+    let e = expected(line, past_octets(o.fine, n.end, end));
     let values = n.values;
     let word = e.word;
     Case {

@@ -1,4 +1,4 @@
-// The functions of double that a case can name.
+// The functions of double that a case can name. A row is counted from 0, in the order of the table.
 use super::answer::Answer;
 use double::stream;
 use double::time;
@@ -11,8 +11,8 @@ pub const TABLE: [u8; 174] = *b"is_finite 1\n\
     round_u64 1\n\
     cast_u32 1\n\
     round 1\n\
-    seconds 1\n\
     nanoseconds 1\n\
+    seconds 1\n\
     jump_limit 2\n\
     restart_missing 2\n\
     account_time 2\n\
@@ -39,7 +39,8 @@ fn of_bool(b: bool) -> Answer {
     Answer::Number(if b { 1 } else { 0 })
 }
 
-fn of_whole(row: usize, x: f64) -> Answer {
+// The rows from 0 on that take one double.
+fn of_one(row: usize, x: f64) -> Answer {
     match row {
         0 => of_bool(whole::is_finite(x)),
         1 => of_bool(whole::is_whole(x)),
@@ -48,14 +49,15 @@ fn of_whole(row: usize, x: f64) -> Answer {
         4 => Answer::Number(whole::round_u64(x)),
         5 => Answer::Number(whole::cast_u32(x) as u64),
         6 => of_double(whole::round(x)),
-        8 => Answer::Number(time::nanoseconds(x)),
+        7 => Answer::Number(time::nanoseconds(x)),
         _ => Answer::Nothing,
     }
 }
 
-fn of_stream(row: usize, n: u64, rate: f64) -> Answer {
+// The rows that take a number, and but for seconds a rate.
+fn of_number(row: usize, n: u64, rate: f64) -> Answer {
     match row {
-        7 => of_double(time::seconds(n)),
+        8 => of_double(time::seconds(n)),
         9 => Answer::Number(stream::jump_limit(n, rate)),
         10 => Answer::Number(stream::restart_missing(n, rate)),
         11 => Answer::Number(stream::account_time(n, rate)),
@@ -66,8 +68,8 @@ fn of_stream(row: usize, n: u64, rate: f64) -> Answer {
 }
 
 pub fn answer(row: usize, n: [u64; 4]) -> Answer {
-    match row {
-        7 | 9..=13 => of_stream(row, n[0], double_of(n[1])),
-        _ => of_whole(row, double_of(n[0])),
+    if row < 8 {
+        return of_one(row, double_of(n[0]));
     }
+    of_number(row, n[0], double_of(n[1]))
 }

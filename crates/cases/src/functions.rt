@@ -1,17 +1,21 @@
-// Which functions there are: a group for each crate, with a table and the code that runs a row of it.
+// Which functions there are: a group of at most 32 for each crate. A further group is a file with a table and the code that runs
+// a row of it, and a line in each function here.
 ghost use Prim.Native.Nat.{_<_};
 use super::answer::Answer;
 use super::double_cases;
 use super::octet_cases;
+use super::report;
 use super::table::Found;
 use super::table::find;
 
+// A function by its row in the table of its group.
 pub enum Function {
     Octet(usize),
     Double(usize),
     Unknown,
 }
 
+// The function of this name that is given so many numbers, and octets or none.
 pub fn named(name: &[u8], count: usize, has_octets: bool) -> Function {
     if let Found::Row(row) = find(&octet_cases::TABLE, name, count, has_octets) {
         return Function::Octet(row);
@@ -31,13 +35,18 @@ pub fn answer(f: Function, n: [u64; 4], p: &mut [u8]) -> Answer {
     }
 }
 
-// The place of a function's count: 32 for each group.
+// Where the function's runs are counted: 32 places for each group. An unknown function is never run.
 pub fn place(f: Function) -> usize
-    ensures { λ r. ⌜ r < 64 ⌝ }
+    ensures { λ r. ⌜ r < 256 ⌝ }
 {
     match f {
         Function::Octet(row) => row % 32,
         Function::Double(row) => 32 + row % 32,
-        Function::Unknown => 63,
+        Function::Unknown => 255,
     }
+}
+
+pub fn print_counts(counts: &[u64; 256]) {
+    report::counts(&octet_cases::TABLE, counts, 0);
+    report::counts(&double_cases::TABLE, counts, 32);
 }

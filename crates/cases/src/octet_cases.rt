@@ -1,4 +1,4 @@
-// The functions of octets that a case can name.
+// The functions of octets that a case can name. A row is counted from 0, in the order of the table.
 ghost use Prim.Native.Nat.{_<_};
 use super::answer::Answer;
 

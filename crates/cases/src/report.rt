@@ -1,7 +1,6 @@
 // What the program writes.
 use super::answer::Answer;
-use super::double_cases;
-use super::octet_cases;
+use super::functions::print_counts;
 use super::run::Tally;
 use super::words::line_end;
 use super::words::next_line;
@@ -57,13 +56,13 @@ pub fn other(at: u64, a: Answer, p: &[u8]) {
     write(b"\n");
 }
 
-// A line for each function of a table that was run.
-fn counts(table: &[u8], counts: &[u64; 64], first: usize) {
+// A line for each function of a table that was run. Its counts start at the place first.
+pub fn counts(table: &[u8], counts: &[u64; 256], first: usize) {
     let mut at = 0;
     let mut place = first;
     while at < table.len() {
         let end = line_end(table, at);
-        if place < 64 {
+        if place < 256 {
             count(&table[at..end], counts[place]);
             place += 1;
         }
@@ -86,8 +85,7 @@ fn count(row: &[u8], n: u64) {
 
 pub fn tell(t: Tally) {
     let c = t.counts;
-    counts(&octet_cases::TABLE, &c, 0);
-    counts(&double_cases::TABLE, &c, 32);
+    print_counts(&c);
     number(t.cases);
     write(b" cases, ");
     number(t.wrong);

@@ -1,4 +1,4 @@
-// A text's lines, one by one, and the tally of what came.
+// The lines of a text, one by one, and the tally of what came.
 ghost use Prim.Native.Nat.{_<_};
 use super::answer::Answer;
 use super::answer::ROOM;
@@ -16,7 +16,7 @@ use std::num::wrapping_add_u64;
 
 // How often each function was run, the cases, those not as expected, and the number of the line.
 pub struct Tally {
-    pub counts: [u64; 64],
+    pub counts: [u64; 256],
     pub cases: u64,
     pub wrong: u64,
     pub line: u64,
@@ -29,7 +29,7 @@ impl Tally {
     }
 
     fn ran(mut self, at: usize) -> Tally
-        requires { ⌜ at < 64 ⌝ }
+        requires { ⌜ at < 256 ⌝ }
     {
         self.counts[at] = wrapping_add_u64(self.counts[at], 1);
         self
@@ -99,7 +99,7 @@ fn one_line(line: &[u8], t: Tally) -> Tally {
 
 pub fn run(text: &[u8]) -> Tally {
     let mut t = Tally {
-        counts: [0; 64],
+        counts: [0; 256],
         cases: 0,
         wrong: 0,
         line: 0,
