@@ -276,7 +276,7 @@ def unary(r):
             of_double(name, b, why)
         for b, why in [p for v, s in edges for p in around(v, s)]:
             of_double(name, b, why)
-        for _ in range(3):
+        for _ in range(2):
             of_double(name, random_double(r, -3, 66))
 
 
@@ -315,7 +315,10 @@ def seams(r):
         # the nanoseconds d * 5^9 * 2^(k - 1065) have so many binary places: d is chosen by what stands in them
         places = 1065 - k
         half = 2 ** (places - 1)
-        for part, why in [(0, 'whole'), (1, 'the least part'), (half - 1, 'below a half'), (half, 'a half'), (half + 1, 'above a half')]:
+        parts = [(0, 'whole'), (1, 'the least part'), (half - 1, 'below a half'), (half, 'a half'), (half + 1, 'above a half')]
+        # one more in the upper limb, and nothing in the lower
+        parts += [(half + 2**17, 'one limb above a half')] * 3 if k == 1046 else []
+        for part, why in parts:
             low = part * pow(5**9, -1, 2**places) % 2**places
             scaled(k, 2**52 + (r.getrandbits(52) >> places << places) + low, why)
 
@@ -368,6 +371,9 @@ def show_jump_limit(r):
         for draw in ways:
             ns, rate = first(r, draw, lambda d: other(*d) != jump_limit(d[0], of(d[1])))
             of_stream('jump_limit', ns, rate, f'{form} would give {other(ns, rate)}')
+    b = bits(of(Fraction((2**64 - 8192) * 238 * 100, 101)))
+    for k in range(-4, 2):
+        of_stream('jump_limit', 10**9, f'{b + k:x}', 'about the cap')
 
 
 def show_restart(r):
@@ -409,6 +415,8 @@ def show_below_half(r):
         of_stream('below_half', n, 48000)
     for n in [767999, 768000]:
         of_stream('below_half', n, 1536000)
+    for n in [22050, 22051]:
+        of_stream('below_half', n, Fraction(88201, 2), 'half is 22050.25')
     of_stream('below_half', 2**53 + 1, 2**54 + 4, 'n is rounded to a double, down to even')
     of_stream('below_half', 2**53 + 1, 2**54, 'so it is not below 2^53')
 
