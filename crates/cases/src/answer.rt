@@ -3,7 +3,7 @@ use super::words::decode;
 use text::Spelt;
 
 // A double stands by its bits. Octets stand in the room that the case was read into, as many as it gave.
-pub enum Answer {
+pub(crate) enum Answer {
     Number(u64),
     Double(u64),
     Octets,
@@ -11,9 +11,9 @@ pub enum Answer {
 }
 
 // Room for the octets of a case: the longest packet has 1444.
-pub const ROOM: usize = 2048;
+pub(crate) const ROOM: usize = 2048;
 
-pub enum Verdict {
+pub(crate) enum Verdict {
     Same,
     Other,
     Unread,
@@ -40,7 +40,7 @@ fn octets_as(came: &[u8], expected: &[u8], room: &mut [u8]) -> Verdict {
 }
 
 // came is the octets of the case, and room is for those that are expected.
-pub fn judge(a: Answer, came: &[u8], expected: &[u8], room: &mut [u8]) -> Verdict {
+pub(crate) fn judge(a: Answer, came: &[u8], expected: &[u8], room: &mut [u8]) -> Verdict {
     match a {
         Answer::Number(n) => number_as(n, expected),
         Answer::Double(b) => number_as(b, expected),

@@ -8,7 +8,7 @@ use super::words::word_at;
 use text::Spelt;
 
 // Numbers from the first on, with how many there are, and how many octets stand in the caller's room.
-pub struct Given {
+pub(crate) struct Given {
     pub numbers: [u64; 4],
     pub count: usize,
     pub has_octets: bool,
@@ -65,7 +65,7 @@ fn equals(line: &[u8], at: usize) -> Word
     Word { start: at, end: at }
 }
 
-pub struct Case {
+pub(crate) struct Case {
     pub name: Word,
     pub given: Given,
     pub expected: Word,
@@ -100,7 +100,7 @@ fn past_octets(has_octets: bool, at: usize, end: usize) -> usize
 }
 
 // The octets go to room.
-pub fn read(line: &[u8], room: &mut [u8]) -> Case
+pub(crate) fn read(line: &[u8], room: &mut [u8]) -> Case
     ensures { λ r. ⌜ (r .name .start ≤ r .name .end) × (r .name .end ≤ length (now (line .entry))) ⌝ }
     ensures { λ r. ⌜ (r .expected .start ≤ r .expected .end) × (r .expected .end ≤ length (now (line .entry))) ⌝ }
     ensures { λ r. ⌜ r .given .octets ≤ length (now (room .exit)) ⌝ }

@@ -4,7 +4,7 @@ use double::stream;
 use double::time;
 use double::whole;
 
-pub const TABLE: [u8; 174] = *b"is_finite 1\n\
+pub(crate) const TABLE: [u8; 174] = *b"is_finite 1\n\
     is_whole 1\n\
     floor_u64 1\n\
     ceil_u64 1\n\
@@ -67,7 +67,7 @@ fn of_number(row: usize, n: u64, rate: f64) -> Answer {
     }
 }
 
-pub fn answer(row: usize, n: [u64; 4]) -> Answer {
+pub(crate) fn answer(row: usize, n: [u64; 4]) -> Answer {
     if row < 8 {
         return of_one(row, double_of(n[0]));
     }

@@ -9,14 +9,14 @@ use super::table::Found;
 use super::table::find;
 
 // A function by its row in the table of its group.
-pub enum Function {
+pub(crate) enum Function {
     Octet(usize),
     Double(usize),
     Unknown,
 }
 
 // The function of this name that is given so many numbers, and octets or none.
-pub fn named(name: &[u8], count: usize, has_octets: bool) -> Function {
+pub(crate) fn named(name: &[u8], count: usize, has_octets: bool) -> Function {
     if let Found::Row(row) = find(&octet_cases::TABLE, name, count, has_octets) {
         return Function::Octet(row);
     }
@@ -27,7 +27,7 @@ pub fn named(name: &[u8], count: usize, has_octets: bool) -> Function {
 }
 
 // p is the octets that the case gives.
-pub fn answer(f: Function, n: [u64; 4], p: &mut [u8]) -> Answer {
+pub(crate) fn answer(f: Function, n: [u64; 4], p: &mut [u8]) -> Answer {
     match f {
         Function::Octet(row) => octet_cases::answer(row, n, p),
         Function::Double(row) => double_cases::answer(row, n),
@@ -36,7 +36,7 @@ pub fn answer(f: Function, n: [u64; 4], p: &mut [u8]) -> Answer {
 }
 
 // Where the function's runs are counted: 32 places for each group. An unknown function is never run.
-pub fn place(f: Function) -> usize
+pub(crate) fn place(f: Function) -> usize
     ensures { λ r. ⌜ r < 256 ⌝ }
 {
     match f {
@@ -46,7 +46,7 @@ pub fn place(f: Function) -> usize
     }
 }
 
-pub fn print_counts(counts: &[u64; 256]) {
+pub(crate) fn print_counts(counts: &[u64; 256]) {
     report::counts(&octet_cases::TABLE, counts, 0);
     report::counts(&double_cases::TABLE, counts, 32);
 }

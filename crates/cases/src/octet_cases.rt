@@ -2,7 +2,7 @@
 ghost use Prim.Native.Nat.{_<_};
 use super::answer::Answer;
 
-pub const TABLE: [u8; 74] = *b"get_u16 1o\n\
+pub(crate) const TABLE: [u8; 74] = *b"get_u16 1o\n\
     get_u24 1o\n\
     get_u32 1o\n\
     put_u16 2o\n\
@@ -66,7 +66,7 @@ fn clear(p: &mut [u8], n: usize) -> Answer {
 }
 
 // p is what the case gives, and is changed in place. No answer where a place or a value is outside what the function asks.
-pub fn answer(row: usize, n: [u64; 4], p: &mut [u8]) -> Answer {
+pub(crate) fn answer(row: usize, n: [u64; 4], p: &mut [u8]) -> Answer {
     if n[0] >= 65536 {
         return Answer::Nothing;
     }

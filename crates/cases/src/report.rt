@@ -15,7 +15,7 @@ fn number(n: u64) {
     io::print_decimal(STDOUT_FILENO, n);
 }
 
-pub fn too_long() {
+pub(crate) fn too_long() {
     write(b"the input is longer than the program's room\n");
 }
 
@@ -25,7 +25,7 @@ fn line(n: u64) {
     write(b": ");
 }
 
-pub fn not_understood(at: u64) {
+pub(crate) fn not_understood(at: u64) {
     line(at);
     write(b"not understood\n");
 }
@@ -42,7 +42,7 @@ fn octets(p: &[u8]) {
 }
 
 // The answer that came, in the form in which a case gives what is expected.
-pub fn other(at: u64, a: Answer, p: &[u8]) {
+pub(crate) fn other(at: u64, a: Answer, p: &[u8]) {
     line(at);
     match a {
         Answer::Number(n) => number(n),
@@ -57,7 +57,7 @@ pub fn other(at: u64, a: Answer, p: &[u8]) {
 }
 
 // A line for each function of a table that was run. Its counts start at the place first.
-pub fn counts(table: &[u8], counts: &[u64; 256], first: usize) {
+pub(crate) fn counts(table: &[u8], counts: &[u64; 256], first: usize) {
     let mut at = 0;
     let mut place = first;
     while at < table.len() {
@@ -83,7 +83,7 @@ fn count(row: &[u8], n: u64) {
     write(b"\n");
 }
 
-pub fn tell(t: Tally) {
+pub(crate) fn tell(t: Tally) {
     let c = t.counts;
     print_counts(&c);
     number(t.cases);

@@ -15,7 +15,7 @@ use super::words::next_line;
 use std::num::wrapping_add_u64;
 
 // How often each function was run, the cases, those not as expected, and the number of the line.
-pub struct Tally {
+pub(crate) struct Tally {
     pub counts: [u64; 256],
     pub cases: u64,
     pub wrong: u64,
@@ -97,7 +97,7 @@ fn one_line(line: &[u8], t: Tally) -> Tally {
     one_case(&line[0..n], t.next_case(), &mut given, &mut wanted)
 }
 
-pub fn run(text: &[u8]) -> Tally {
+pub(crate) fn run(text: &[u8]) -> Tally {
     let mut t = Tally {
         counts: [0; 256],
         cases: 0,

@@ -3,7 +3,7 @@ use super::words::line_end;
 use super::words::next_line;
 use super::words::word_at;
 
-pub enum Found {
+pub(crate) enum Found {
     Row(usize),
     Nothing,
 }
@@ -28,7 +28,7 @@ fn kinds(rest: &[u8], count: usize, has_octets: bool) -> bool {
 }
 
 // The number of the first row that fits.
-pub fn find(table: &[u8], name: &[u8], count: usize, has_octets: bool) -> Found {
+pub(crate) fn find(table: &[u8], name: &[u8], count: usize, has_octets: bool) -> Found {
     let mut at = 0;
     let mut number = 0;
     while at < table.len() {

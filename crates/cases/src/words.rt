@@ -4,13 +4,13 @@ ghost use Prim.Native.Nat.{_+_, _*_, _≤_, _<_};
 ghost use lib.ListN.{length};
 use text::Spelt;
 
-pub struct Word {
+pub(crate) struct Word {
     pub start: usize,
     pub end: usize,
 }
 
 // The word that starts at or after `at`, empty where none is left.
-pub fn word_at(s: &[u8], at: usize) -> Word
+pub(crate) fn word_at(s: &[u8], at: usize) -> Word
     requires { ⌜ at ≤ length (now s) ⌝ }
     ensures { λ r. ⌜ (at ≤ r .start) × (r .start ≤ r .end) × (r .end ≤ length (now (s .entry))) ⌝ }
 {
@@ -20,7 +20,7 @@ pub fn word_at(s: &[u8], at: usize) -> Word
 }
 
 // Where the line ends in which `at` stands.
-pub fn line_end(s: &[u8], at: usize) -> usize
+pub(crate) fn line_end(s: &[u8], at: usize) -> usize
     requires { ⌜ at ≤ length (now s) ⌝ }
     ensures { λ r. ⌜ (at ≤ r) × (r ≤ length (now (s .entry))) ⌝ }
 {
@@ -28,7 +28,7 @@ pub fn line_end(s: &[u8], at: usize) -> usize
 }
 
 // Where the next line starts, or the end.
-pub fn next_line(s: &[u8], at: usize) -> usize
+pub(crate) fn next_line(s: &[u8], at: usize) -> usize
     requires { ⌜ at < length (now s) ⌝ }
     ensures { λ r. ⌜ (at < r) × (r ≤ length (now (s .entry))) ⌝ }
 {
@@ -36,7 +36,7 @@ pub fn next_line(s: &[u8], at: usize) -> usize
     if end < s.len() { end + 1 } else { end }
 }
 
-pub struct Decoded {
+pub(crate) struct Decoded {
     pub count: usize,
     pub fine: bool,
 }
@@ -51,7 +51,7 @@ fn none() -> Decoded
 }
 
 // Puts the octets of a word such as x:00ff at the front of room.
-pub fn decode(w: &[u8], room: &mut [u8]) -> Decoded
+pub(crate) fn decode(w: &[u8], room: &mut [u8]) -> Decoded
     ensures { λ r. ⌜ r .count ≤ length (now (room .exit)) ⌝ }
 {
     if w.len() < 2 {

@@ -15,7 +15,7 @@ digitOf x =
     (cond (ltb x 97) 16
     (cond (ltb x 103) (x - 87) 16)))
 
--- n followed by the digits of a list, in base b: nothing where one is no digit of b or where the number passes a u64
+-- n followed by the digits of a list, in base b: nothing where one is not below b or where the number passes a u64. In a base up to 16 what is no digit is none
 unfoldable pub digitsAfter : ℕ → ℕ → List ℕ → Spelt
 digitsAfter b n [] = Number n
 digitsAfter b n (x ∷ xs) =

@@ -1,6 +1,6 @@
 // Words and numbers in a slice of text. Every function is total: a caller goes on with the part of the slice that is left.
 ghost use mathlib.Core.Path.{_≡_};
-ghost use Prim.Native.Nat.{_≤_, _<_};
+ghost use Prim.Native.Nat.{_≤_};
 ghost use mathlib.Core.Bool.{true};
 ghost use lib.ListN.{length};
 ghost use Rattle.text.specs.Run.{run, is, other};
@@ -59,9 +59,8 @@ pub fn digit(x: u8) -> u64
     16
 }
 
-// The number that s spells in a base up to 16: one digit or more, and no more than a u64 holds.
+// The number that s spells in a base: one digit or more, each below the base, and no more than a u64 holds.
 pub fn digits(s: &[u8], base: u64) -> Spelt
-    requires { ⌜ (0 < base) × (base ≤ 16) ⌝ }
     ensures { λ r. ⌜ r ≡ digitsOf base (now (s .entry)) ⌝ }
 {
     if s.len() == 0 {
