@@ -1,8 +1,12 @@
 # rt is taken from the PATH, or else from the toolchain's folder under RATTLE_HOME.
 RT := $(shell command -v rt 2>/dev/null || { [ -n "$$RATTLE_HOME" ] && echo "$$RATTLE_HOME/bin/rt"; })
 
-.PHONY: test
+.PHONY: test vectors
 # Proves every crate from nothing, tries every must-fail edit and runs every program.
 test:
 	@[ -n "$(RT)" ] || { echo "make test: no rt on the PATH, and RATTLE_HOME is not set" >&2; exit 1; }
 	@"$(RT)" ci
+
+# Works the values that the program `cases` is run on out again.
+vectors:
+	@python3 tools/double_cases.py > crates/cases/stdin
