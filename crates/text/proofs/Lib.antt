@@ -1,2 +1,3 @@
+-- The laws of `text`, for its own proofs: a file imports only what stands above it here.
 pub mod Runs
 pub mod Spelling
