@@ -4,7 +4,7 @@ use Prim.Native.Nat.{ℕ, _≤_, _/_, _%_}
 use native.Mathlib.Omega.{arith}
 use mathlib.Core.Bool.{Bool, true, false, not, _&&_, true≢false}
 use borrow.Author.Tests.{eqb-true, eq-eqb}
-use lib.Dec.{T, eqb}
+use lib.Dec.{T}
 use lib.Ieee.{binary64, nanBits}
 
 not-both : (a b : Bool) → (a ≡ true → b ≡ true) → T (not (a && not b))

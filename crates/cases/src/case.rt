@@ -1,5 +1,4 @@
 // A line taken apart: where the function's name stands, what it is given, and where the word stands that is expected.
-ghost use mathlib.Core.Path.{_≡_};
 ghost use Prim.Native.Nat.{_≤_};
 ghost use lib.ListN.{length};
 use super::words::Word;

@@ -1,6 +1,5 @@
 -- Upper bounds through rounding: what stays at or below a whole number that is a double. Assumes nothing.
 use mathlib.Core.Path.{_≡_, refl, sym, ap, _∙_, subst}
-use mathlib.Core.Logic.{_⊎_, inl, inr}
 use Prim.Native.Nat.{ℕ, _+_, _-_, _*_, _^_, _≤_, _<_}
 use native.Mathlib.Nat.{le-trans, le-of-eq, le-of-lt, mul-one, mul-assoc, mul-right-comm, mul-pos, add-mul, mul-le-mul, mul-le-mul-right, le-of-mul-le-mul-right, add-le-add, mul-mul-mul-comm, zero-lt-suc}
 use native.Mathlib.Omega.{arith}
@@ -30,13 +29,13 @@ UpTo nan b = ⊥
 UpTo (inf s) b = ⊥
 UpTo (fin s m e) b = (s ≡ false) × (m * up e ≤ b * down e)
 
-or-split : (a b : Bool) → T (a || b) → T a ⊎ T b
-or-split true b t = inl tt
-or-split false b t = inr t
-
 -- `le` of two that are not negative
 pub le-cross : (a b : ℕ) → T (ltb a b || (eqb a b && true)) → a ≤ b
-le-cross a b t = elim (or-split (ltb a b) (eqb a b && true) t) [ inl u ↦ le-of-lt (ltb→lt a b u) | inr u ↦ le-of-eq (eqb→eq a b (and-l (eqb a b) true u)) ]
+le-cross a b = go (ltb a b) (ltb→lt a b)
+  where
+    go : (l : Bool) → (T l → a < b) → T (l || (eqb a b && true)) → a ≤ b
+    go true f t = le-of-lt (f tt)
+    go false f t = le-of-eq (eqb→eq a b (and-l (eqb a b) true t))
 
 under : (z w : Float) (b : ℕ) → minus? z ≡ false → T (le z w) → HasValue w false b 1 → UpTo z b
 unfolding le

@@ -1,13 +1,13 @@
--- Floors of rounded quotients. Assumes nothing.
+-- Whole parts of values: a cast, exact fractions, and a rounded quotient that keeps its whole part. Assumes nothing.
 use mathlib.Core.Path.{_≡_, refl, sym, ap, _∙_, subst}
 use Prim.Native.Nat.{ℕ, suc, _+_, _-_, _*_, _/_, _%_, _^_, _≤_, _<_, min}
-use native.Mathlib.Nat.{le-trans, le-of-eq, lt-of-lt-of-le, lt-of-le-of-lt, mul-one, one-mul, mul-comm, mul-assoc, mul-right-comm, zero-lt-suc, div-mul-le-self, le-div-iff-mul-le, div-lt-iff-lt-mul, le-antisymm, le-of-suc-le-suc, mul-le-mul-right, mul-lt-mul-of-pos-right, lt-of-mul-lt-mul-right, div-add-mod', mod-lt, suc-mul, mul-sub}
+use native.Mathlib.Nat.{le-trans, le-of-eq, lt-of-lt-of-le, lt-of-le-of-lt, mul-one, one-mul, mul-comm, mul-assoc, mul-right-comm, zero-lt-suc, div-mul-le-self, le-div-iff-mul-le, div-lt-iff-lt-mul, le-antisymm, le-of-suc-le-suc, mul-le-mul-right, mul-lt-mul-of-pos-right, lt-of-mul-lt-mul-right, div-add-mod', mod-lt, suc-mul, mul-sub, add-mul, mul-add, sub-add-cancel}
 use native.Mathlib.Omega.{arith}
 use mathlib.Core.Bool.{Bool, true, false, true≢false}
 use lib.Dec.{T}
 use lib.Pow.{pow-add, pow-pos, pow-mono, shl-lt}
-use lib.Ieee.{Float, nan, inf, fin, binary64, up, down, round, toUnsigned}
-use lib.Ieee.Fits.{down-pos}
+use lib.Ieee.{Float, nan, inf, fin, Format, binary64, prec, emax, low, up, down, round, toUnsigned}
+use lib.Ieee.Fits.{down-pos, reach}
 use lib.Ieee.Exact.{HasValue, round-exact}
 use lib.Ieee.Back.{round-whole}
 use lib.Ieee.Nearest.{div-same}
@@ -20,21 +20,19 @@ pub cut-of-value : (w : ℕ) (x : Float) (a c : ℕ) → 0 < c → HasValue x fa
 unfolding toUnsigned
 cut-of-value w nan a c C h = absurd h
 cut-of-value w (inf s) a c C h = absurd h
-cut-of-value w (fin true m e) a c C h = absurd (mathlib.Core.Bool.true≢false (h .0))
+cut-of-value w (fin true m e) a c C h = absurd (true≢false (h .0))
 cut-of-value w (fin false m e) a c C h = ap (λ (z : ℕ). min z (2 ^ w - 1)) (div-same (m * up e) (down e) a c (down-pos e) C (h .1))
 
--- ---- a value with 53 digits and j places after the point is a double
-pub exact64 : (q j : ℕ) → j ≤ 1074 → q < 2 ^ 53 → HasValue (round binary64 false q (2 ^ j)) false q (2 ^ j)
-exact64 q j J Q =
-    round-exact binary64 false q (2 ^ j) q (1074 - j) (pow-pos j) Q
-    (lt-of-lt-of-le (shl-lt 53 (1074 - j) Q) (pow-mono (fit j)))
-    (ap (λ (z : ℕ). q * 2 ^ z) (sym (back j J)) ∙ ap (λ (z : ℕ). q * z) (pow-add 2 (1074 - j) j) ∙ sym (mul-assoc q (2 ^ (1074 - j)) (2 ^ j)))
+-- ---- a fraction with at most the format's digits, j of them after the point, is a value of the format
+pub exact-fraction : (f : Format) (s : Bool) (q j : ℕ) → q < 2 ^ prec f → j ≤ low f → HasValue (round f s q (2 ^ j)) s q (2 ^ j)
+exact-fraction f s q j Q J =
+    let k = low f - j in
+    round-exact f s q (2 ^ j) q k (pow-pos j) Q
+    (lt-of-lt-of-le (shl-lt (prec f) k Q) (pow-mono (room (prec f) (emax f) (low f) j (reach f))))
+    (ap (λ (z : ℕ). q * 2 ^ z) (sym (sub-add-cancel J)) ∙ ap (λ (z : ℕ). q * z) (pow-add 2 k j) ∙ sym (mul-assoc q (2 ^ k) (2 ^ j)))
   where
-    fit : (j : ℕ) → 53 + (1074 - j) ≤ 1074 + 1024
-    fit j = omega arith
-
-    back : (j : ℕ) → j ≤ 1074 → 1074 - j + j ≡ 1074
-    back j h = omega arith
+    room : (p e l j : ℕ) → p ≤ suc e → p + (l - j) ≤ l + suc e
+    room p e l j h = omega arith
 
 -- ---- a rounded fraction keeps its whole part, where the doubles there are fine enough
 
@@ -47,9 +45,9 @@ below-next a c p C h =
     let l : suc r ≤ c = mod-lt a C in
     let rp : suc r * p ≤ c * p = mul-le-mul-right p l in
     let rs : suc r * p ≡ r * p + p = suc-mul r p in
-    let ep : a * p ≡ n * c * p + r * p = ap (λ (z : ℕ). z * p) (sym e) ∙ native.Mathlib.Nat.add-mul (n * c) r p in
+    let ep : a * p ≡ n * c * p + r * p = ap (λ (z : ℕ). z * p) (sym e) ∙ add-mul (n * c) r p in
     let g : ((n + 1) * p - 1) * c ≡ c * ((n + 1) * p) - c = mul-comm ((n + 1) * p - 1) c ∙ mul-sub c ((n + 1) * p) 1 ∙ ap (λ (z : ℕ). c * ((n + 1) * p) - z) (mul-one c) in
-    let k : c * ((n + 1) * p) ≡ n * c * p + c * p = ap (λ (z : ℕ). c * z) (native.Mathlib.Nat.add-mul n 1 p ∙ ap (λ (z : ℕ). n * p + z) (one-mul p)) ∙ native.Mathlib.Nat.mul-add c (n * p) p ∙ ap (λ (z : ℕ). z + c * p) (sym (mul-assoc c n p) ∙ ap (λ (z : ℕ). z * p) (mul-comm c n)) in
+    let k : c * ((n + 1) * p) ≡ n * c * p + c * p = ap (λ (z : ℕ). c * z) (add-mul n 1 p ∙ ap (λ (z : ℕ). n * p + z) (one-mul p)) ∙ mul-add c (n * p) p ∙ ap (λ (z : ℕ). z + c * p) (sym (mul-assoc c n p) ∙ ap (λ (z : ℕ). z * p) (mul-comm c n)) in
     subst (λ (z : ℕ). a * p ≤ z) (sym (g ∙ ap (λ (z : ℕ). z - c) k)) (subst (λ (z : ℕ). z ≤ n * c * p + c * p - c) (sym ep) (fin-step (n * c * p) (r * p) (c * p) p c rp rs h))
   where
     fin-step : (x y z p c : ℕ) {s : ℕ} → s ≤ z → s ≡ y + p → c ≤ p → x + y ≤ x + z - c
@@ -66,7 +64,7 @@ floor-round w a c j C P J N B =
     let PP : 0 < p = pow-pos j in
     let M : n + 1 ≤ (n + 1) * p = le-trans (le-of-eq (sym (mul-one (n + 1)))) (native.Mathlib.Nat.mul-le-mul-left (n + 1) PP) in
     let vlo : HasValue lo false n 1 = round-whole binary64 false n (small n ((n + 1) * p) (2 ^ 53) M B) in
-    let vhi : HasValue hi false q p = exact64 q j J (cut ((n + 1) * p) (2 ^ 53) n B M) in
+    let vhi : HasValue hi false q p = exact-fraction binary64 false q j (cut ((n + 1) * p) (2 ^ 53) n B M) J in
     let plo : T (positive lo) = positive-of-value lo n 1 vlo N in
     let phi : T (positive hi) = positive-of-value hi q p vhi (above n ((n + 1) * p) N M) in
     let l1 = round-mono binary64 n 1 a c (zero-lt-suc 0) C (le-trans (div-mul-le-self a c) (le-of-eq (sym (mul-one a)))) in

@@ -13,20 +13,16 @@ use lib.Ieee.Exact.{HasValue}
 use lib.Ieee.Back.{round-whole}
 use lib.Ieee.Scale.{round-same}
 use lib.Ieee.Positive.{num, den, den-pos, positive}
-use Rattle.double.specs.Whole.{most, natOf, floorAt, floorOf, ceilAt, ceilOf, roundAt, rounded}
+use Rattle.double.specs.Whole.{most, floorAt, floorOf, ceilAt, ceilOf, roundAt, rounded}
 use Rattle.double.specs.Seconds.{secondsOf, giga, nanosAt, nanosOf}
 use Rattle.double.specs.Stream.{perDatagram, slack, two, plausible, jumpLimit, restartMissing, accountTime, coveredTime, belowHalf}
 use Rattle.double.proofs.Bounds.{Exact, UpTo, exact-small, of-nat-up-to, add-up-to, mul-up-to, div-up-to, up-to-more, div-at, at-most, plain-up-to}
-use Rattle.double.proofs.Plain.{Plain, plain, of-value}
-use Rattle.double.proofs.Floors.{exact64}
+use Rattle.double.proofs.Plain.{plain, of-value}
+use Rattle.double.proofs.Floors.{exact-fraction}
+use Rattle.double.proofs.Wholes.{nat-plain}
 use Rattle.double.proofs.Fractions.{ceil-le, round-le}
 use Rattle.double.proofs.Signs.{round-sign}
 use Rattle.double.proofs.Values.{floor-of-whole, nat-minus, sub-ge, sub-lt, lt-of-values}
-
--- a whole number near what is finite and not negative, cut short at the largest u64
-nat-plain : (g : ℕ → ℕ → ℕ) (x : Float) → Plain x → natOf g x ≡ min (g (num x) (den x)) most
-unfolding natOf
-nat-plain g x p = plain (λ (x : Float). natOf g x ≡ min (g (num x) (den x)) most) (λ m e. refl) x p
 
 -- ---- seconds
 pub fraction-up-to : (ns : ℕ) → UpTo (div binary64 (ofInt binary64 (pos (ns % 1000000000))) giga) 1
@@ -121,7 +117,7 @@ half-plain n r rate N R v =
         subst (λ (y : Float). HasValue y false r 2)
         (sym (div-at m e 1 (pos 1) (zero-lt-suc 0)
         ∙ round-same binary64 false (m * up e * 1) (1 * 2 * down e) r 2 (mul-pos (zero-lt-suc 1) (down-pos e)) (zero-lt-suc 1) (ap (λ (z : ℕ). z * 2) (v .1) ∙ crossed r (down e))))
-        (exact64 r 1 (lit≤ tt) R)
+        (exact-fraction binary64 false r 1 R (lit≤ tt))
 
     halved : (x : Float) → HasValue x false r 1 → HasValue (div binary64 x two) false r 2
     halved x v = plain (λ (x : Float). HasValue x false r 1 → HasValue (div binary64 x two) false r 2) halved-fin x (of-value x r 1 v) v

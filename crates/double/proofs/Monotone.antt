@@ -1,7 +1,7 @@
 -- What rises with a double, with an elapsed time or with a count: none of the readings ever falls. Assumes nothing.
 use mathlib.Core.Path.{_≡_, refl, sym, ap, _∙_, subst₂}
-use Prim.Native.Nat.{ℕ, suc, _+_, _-_, _*_, _/_, _%_, _^_, _≤_, _<_, min}
-use native.Mathlib.Nat.{le-trans, le-of-eq, mul-one, mul-comm, mul-assoc, mul-right-comm, mul-mul-mul-comm, mul-pos, add-mul, mul-le-mul-right, zero-lt-suc, zero-mul, eq-of-mul-eq-mul-right, add-le-add, one-mul, suc-mul}
+use Prim.Native.Nat.{ℕ, _+_, _-_, _*_, _/_, _%_, _^_, _≤_, _<_, min}
+use native.Mathlib.Nat.{le-trans, le-of-eq, mul-one, mul-comm, mul-assoc, mul-right-comm, mul-mul-mul-comm, mul-pos, add-mul, mul-le-mul-right, zero-lt-suc, lt-of-le-of-lt, add-le-add, one-mul, suc-mul}
 use native.Mathlib.Omega.{arith}
 use mathlib.Core.Bool.{Bool, true, false, _||_, _&&_}
 use mathlib.Core.Logic.{_⊎_, inl, inr}
@@ -21,6 +21,7 @@ use Rattle.double.proofs.Fractions.{Rising, ceil-rising, round-rising, 
 use Rattle.double.proofs.Wholes.{ceil-zero}
 use Rattle.double.proofs.Nanos.{nanos-zero}
 use Rattle.double.proofs.Bounds.{UpTo, le-cross, div-at, at-most, plain-up-to}
+use Rattle.double.proofs.Zeros.{factor-zero}
 use Rattle.double.proofs.Plain.{Plain, plain-two, of-value, of-positive}
 use Rattle.double.proofs.Limits.{fraction-up-to, count-up-to, datagrams-up-to, seconds-up-to, rate-up-to, product-up-to, samples-up-to, restart-plain}
 use Rattle.double.specs.Seconds.{secondsOf, giga, nanosAt, nanosOf}
@@ -49,7 +50,7 @@ nat-rising g z r (fin false m e) (inf false) h = top (g (m * up e) (down e))
     top : (v : ℕ) → min v most ≤ most
     top v = omega arith
 nat-rising g z r (fin false m e) (fin true n d) h =
-    le-of-eq (ap (λ (a : ℕ). min (g a (down e)) most) (eq-of-mul-eq-mul-right (down d) (down-pos d) (m * up e) 0 (zero-under (m * up e * down d) (n * up d * down e) h ∙ sym (zero-mul (down d)))) ∙ ap (λ (v : ℕ). min v most) (z (down e) (down-pos e)))
+    le-of-eq (ap (λ (a : ℕ). min (g a (down e)) most) (factor-zero (m * up e) (down d) (down-pos d) (zero-under (m * up e * down d) (n * up d * down e) h)) ∙ ap (λ (v : ℕ). min v most) (z (down e) (down-pos e)))
 nat-rising g z r (fin false m e) (fin false n d) h = capped (g (m * up e) (down e)) (g (n * up d) (down d)) (r (m * up e) (down e) (n * up d) (down d) (down-pos e) (down-pos d) (le-cross (m * up e * down d) (n * up d * down e) h))
 
 -- ---- operations on what is finite and not negative
@@ -132,14 +133,11 @@ unfolding secondsOf ofInt
 seconds-rising a b h l =
     add-rising (ofInt binary64 (pos (a / 1000000000))) (ofInt binary64 (pos (b / 1000000000)))
     (div binary64 (ofInt binary64 (pos (a % 1000000000))) giga) (div binary64 (ofInt binary64 (pos (b % 1000000000))) giga)
-    (a / 1000000000) (b / 1000000000) (whole (a / 1000000000) (few a (le-trans (suc-le a b h) l))) (whole (b / 1000000000) (few b l))
+    (a / 1000000000) (b / 1000000000) (whole (a / 1000000000) (few a (lt-of-le-of-lt h l))) (whole (b / 1000000000) (few b l))
     (fraction-up-to a) (fraction-up-to b) (go (ltb (a / 1000000000) (b / 1000000000)) refl)
   where
     whole : (n : ℕ) → n ≤ 2 ^ 53 → HasValue (ofInt binary64 (pos n)) false n 1
     whole n h = round-whole binary64 false n h
-
-    suc-le : (a b : ℕ) → a ≤ b → suc a ≤ suc b
-    suc-le a b h = omega arith
 
     few : (ns : ℕ) → ns < 18446744073709551616 → ns / 1000000000 ≤ 9007199254740992
     few ns h = omega arith
@@ -170,10 +168,7 @@ seconds-rising a b h l =
 -- ---- the stream's figures, with elapsed time
 module _ (a b : ℕ) (rate : Float) (h : a ≤ b) (l : b < 2 ^ 64) where
   first : a < 2 ^ 64
-  first = le-trans (more a b h) l
-    where
-      more : (a b : ℕ) → a ≤ b → suc a ≤ suc b
-      more a b h = omega arith
+  first = lt-of-le-of-lt h l
 
   plain-seconds : (ns : ℕ) → ns < 2 ^ 64 → Plain (secondsOf ns)
   plain-seconds ns h = plain-up-to (secondsOf ns) 18446744074 (seconds-up-to ns h)

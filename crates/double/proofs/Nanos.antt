@@ -11,8 +11,8 @@ use lib.Ieee.{Float, nearest}
 use lib.Ieee.Nearest.{closest, closest-same, nearest-ge}
 use lib.Ieee.Positive.{num, den, den-pos}
 use Rattle.double.specs.Whole.{most}
-use Rattle.double.specs.Seconds.{toEven, nanosAt, nanosBy}
-use Rattle.double.specs.Parts.{PartsOf}
+use Rattle.double.specs.Seconds.{nanosAt}
+use Rattle.double.specs.Parts.{PartsOf, toEven, nanosBy}
 use Rattle.double.proofs.Orders.{near-lt, near-gt, near-eq}
 use Rattle.double.proofs.Splits.{half-same, cross-of}
 

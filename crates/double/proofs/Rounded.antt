@@ -1,7 +1,7 @@
 -- Rust's `x.round()`, a double again: a whole double is its own, and from 2 ^ 52 on each is whole. Assumes nothing.
 use mathlib.Core.Path.{_≡_, refl, sym, ap, _∙_, subst}
 use Prim.Native.Nat.{ℕ, zero, suc, _+_, _-_, _*_, _/_, _%_, _^_, _≤_, _<_, min, compare, Ordering, Ordering·lt, Ordering·eq, Ordering·gt}
-use native.Mathlib.Nat.{le-trans, le-of-lt, lt-of-lt-of-le, mul-one, mul-assoc, zero-mul, mul-pos, zero-lt-suc, add-zero, not-le-of-lt, div-add-mod', div-lt-iff-lt-mul, mul-le-mul-left, eq-of-mul-eq-mul-right, zero-mod}
+use native.Mathlib.Nat.{le-trans, le-of-lt, mul-one, mul-assoc, zero-mul, mul-pos, zero-lt-suc, add-zero, not-le-of-lt, div-add-mod', div-lt-iff-lt-mul, mul-le-mul-left, zero-mod, mod-one}
 use native.Mathlib.Omega.{arith}
 use mathlib.Core.Bool.{Bool, true, false, true≢false}
 use borrow.Author.Tests.{ltb-true, ltb-false, le-ltb, eqb-true, eq-eqb, leb-true, leb-false}
@@ -9,12 +9,14 @@ use lib.IntN.{ℤ, pos, negsuc}
 use lib.Dec.{T, ltb, leb, lit≤}
 use lib.Pow.{pow-add, pow-pos, pow-mono, pow-lt, shl-lt}
 use lib.Ieee.{Float, nan, inf, fin, Format, binary64, prec, emax, low, up, down, round, fits, lt, neg, ofInt}
-use lib.Ieee.Fits.{up-pos, down-pos, round-fits, reach}
+use lib.Ieee.Fits.{up-pos, down-pos, round-fits}
 use lib.Ieee.Exact.{HasValue, round-exact}
 use lib.Ieee.Back.{round-whole}
 use lib.Ieee.Scale.{round-same, finite}
 use Rattle.double.specs.Whole.{most, natOf, roundAt, roundOf, away, rounded, isWhole}
 use Rattle.double.proofs.Orders.{away-lt}
+use Rattle.double.proofs.Zeros.{factor-zero, zero-side}
+use Rattle.double.proofs.Floors.{exact-fraction}
 use Rattle.double.proofs.Fractions.{round-le}
 use Rattle.double.proofs.Wholes.{below-zero}
 use Rattle.double.proofs.Signs.{neg-round}
@@ -36,19 +38,6 @@ module _ (f : Format) (s : Bool) (m : ℕ) where
       (subst (λ (z : ℕ). m * 2 ^ k * 2 ^ low f < 2 ^ z) (native.Mathlib.Nat.add-comm (suc (emax f)) (low f)) (shl-lt (suc (emax f)) (low f) B)))
       (mul-assoc m (2 ^ k) (2 ^ low f) ∙ ap (λ (z : ℕ). m * z) (sym (pow-add 2 k (low f))) ∙ sym (mul-one (m * 2 ^ (k + low f))))
 
-  down-value : (k : ℕ) → m < 2 ^ prec f → k ≤ low f → HasValue (round f s (m * 1) (2 ^ k)) s (m * 1) (2 ^ k)
-  down-value k P K =
-      let j = low f - k in
-      round-exact f s (m * 1) (2 ^ k) m j (pow-pos k) P
-      (lt-of-lt-of-le (shl-lt (prec f) j P) (pow-mono (room (prec f) (emax f) (low f) k (reach f))))
-      (ap (λ (z : ℕ). z * 2 ^ low f) (mul-one m) ∙ ap (λ (z : ℕ). m * 2 ^ z) (sym (back (low f) k K)) ∙ ap (λ (z : ℕ). m * z) (pow-add 2 j k) ∙ sym (mul-assoc m (2 ^ j) (2 ^ k)))
-    where
-      room : (p e l k : ℕ) → p ≤ suc e → p + (l - k) ≤ l + suc e
-      room p e l k h = omega arith
-
-      back : (l k : ℕ) → k ≤ l → l - k + k ≡ l
-      back l k h = omega arith
-
 own-value : (f : Format) (s : Bool) (m : ℕ) (e : ℤ) → T (fits f (fin s m e)) → HasValue (round f s (m * up e) (down e)) s (m * up e) (down e)
 unfolding fits
 own-value f s zero e t =
@@ -59,7 +48,7 @@ own-value f s (suc m) (pos k) t =
     up-value f s (suc m) k (q .small) (subst (λ (z : ℕ). suc m * 2 ^ k < z) (mul-one (2 ^ suc (emax f))) (q .range))
 own-value f s (suc m) (negsuc k) t =
     let q = kept f s m (negsuc k) t in
-    down-value f s (suc m) (suc k) (q .small) (exponent-le (suc k) (low f) (q .fine))
+    subst (λ (z : ℕ). HasValue (round f s z (2 ^ suc k)) s z (2 ^ suc k)) (sym (mul-one (suc m))) (exact-fraction f s (suc m) (suc k) (q .small) (exponent-le (suc k) (low f) (q .fine)))
 
 pub round-own : (f : Format) (s : Bool) (m : ℕ) (e : ℤ) → T (fits f (fin s m e)) → round f s (m * up e) (down e) ≡ fin s m e
 round-own f s m e t =
@@ -92,9 +81,6 @@ whole-zero s m e z = eq-eqb (m * up e % down e) 0 (ap (λ (n : ℕ). n * up e % 
 whole-up : (s : Bool) (m k : ℕ) → isWhole (fin s m (pos k)) ≡ true
 unfolding isWhole
 whole-up s m k = eq-eqb (m * 2 ^ k % 1) 0 (mod-one (m * 2 ^ k))
-  where
-    mod-one : (a : ℕ) → a % 1 ≡ 0
-    mod-one a = omega arith
 
 -- from 2 ^ 52 on there is no room for a fraction
 no-fraction : (m k : ℕ) → m < 2 ^ 53 → 2 ^ 52 * 2 ^ suc k ≤ m → ⊥
@@ -118,18 +104,15 @@ whole-past (fin true m e) t n h f = absurd (some (m * up e * 1) (1 * 2 ^ 52 * do
     some a b h k = omega arith
 whole-past (fin false m e) t n h f = whole-large false m e t (subst (λ (z : ℕ). 2 ^ 52 * down e ≤ z) (mul-one (m * up e)) (ltb-false (m * up e * 1) (1 * 2 ^ 52 * down e) h))
 
-whole-none : (x : Float) → lt x (fin false 0 (pos 0)) ≡ false → lt (fin false 0 (pos 0)) x ≡ false → finite x ≡ true → isWhole x ≡ true
+whole-neither : (x : Float) → lt x (fin false 0 (pos 0)) ≡ false → lt (fin false 0 (pos 0)) x ≡ false → finite x ≡ true → isWhole x ≡ true
 unfolding lt
-whole-none nan n h f = absurd (true≢false (sym f))
-whole-none (inf s) n h f = absurd (true≢false (sym f))
-whole-none (fin true m e) n h f = whole-zero true m e (first-zero m (up e) (up-pos e) (none (m * up e) (0 * 1 * down e) (ltb-false 0 (m * up e * 1 + 0 * 1 * down e) n)))
+whole-neither nan n h f = absurd (true≢false (sym f))
+whole-neither (inf s) n h f = absurd (true≢false (sym f))
+whole-neither (fin true m e) n h f = whole-zero true m e (factor-zero m (up e) (up-pos e) (none (m * up e) (0 * 1 * down e) (ltb-false 0 (m * up e * 1 + 0 * 1 * down e) n)))
   where
     none : (a b : ℕ) → a * 1 + b ≤ 0 → a ≡ 0
     none a b h = omega arith
-
-    first-zero : (m u : ℕ) → 0 < u → m * u ≡ 0 → m ≡ 0
-    first-zero m u U h = eq-of-mul-eq-mul-right u U m 0 (h ∙ sym (zero-mul u))
-whole-none (fin false m e) n h f = whole-zero false m e (below-zero m e h)
+whole-neither (fin false m e) n h f = whole-zero false m e (below-zero m e h)
 
 -- ---- nothing is rounded twice: the double is the whole number that is nearest, half away from zero
 pub rounded-exact : (s : Bool) (m : ℕ) (e : ℤ) → T (fits binary64 (fin s m e)) → HasValue (rounded (fin s m e)) s (roundAt (m * up e) (down e)) 1
@@ -149,7 +132,7 @@ pub past-own : (x : Float) → T (fits binary64 x) → lt x (fin false 0 (pos 0)
 past-own x t n h = own x t (whole-past x t n h)
 
 pub none-own : (x : Float) → T (fits binary64 x) → lt x (fin false 0 (pos 0)) ≡ false → lt (fin false 0 (pos 0)) x ≡ false → x ≡ rounded x
-none-own x t n h = own x t (whole-none x n h)
+none-own x t n h = own x t (whole-neither x n h)
 
 pub under-own : (x : Float) → lt (fin false 0 (pos 0)) x ≡ true → lt x (fin false 1 (pos 52)) ≡ true → ofInt binary64 (pos (roundOf x)) ≡ rounded x
 unfolding lt ofInt natOf rounded
@@ -180,11 +163,5 @@ unfolding lt neg
 neg-up nan h = absurd (true≢false (sym h))
 neg-up (inf true) h = refl
 neg-up (inf false) h = absurd (true≢false (sym h))
-neg-up (fin true m e) h = le-ltb (m * up e * 1) (0 * 1 * down e) (nothing (m * up e * 1) (0 * 1 * down e) (ap (λ (z : ℕ). z * down e) (zero-mul 1) ∙ zero-mul (down e)))
-  where
-    nothing : (a z : ℕ) → z ≡ 0 → z ≤ a
-    nothing a z e = omega arith
-neg-up (fin false m e) h = absurd (below (m * up e * 1) (0 * 1 * down e) (ap (λ (z : ℕ). z * down e) (zero-mul 1) ∙ zero-mul (down e)) (ltb-true (m * up e * 1) (0 * 1 * down e) h))
-  where
-    below : (a z : ℕ) → z ≡ 0 → a < z → ⊥
-    below a z e h = omega arith
+neg-up (fin true m e) h = le-ltb (m * up e * 1) (0 * 1 * down e) (omega (arith, zero-side (down e)))
+neg-up (fin false m e) h = absurd (omega (arith, zero-side (down e), ltb-true (m * up e * 1) (0 * 1 * down e) h))

@@ -1,7 +1,7 @@
 -- A finite double as whole + rest / unit. Assumes nothing.
 use mathlib.Core.Path.{_≡_, sym, ap, _∙_, subst}
 use Prim.Native.Nat.{ℕ, _+_, _-_, _*_, _/_, _%_, _^_, _≤_, _<_, min, compare, Ordering·lt}
-use native.Mathlib.Nat.{le-trans, le-of-eq, lt-of-lt-of-le, lt-of-le-of-lt, mul-one, one-mul, zero-mul, mul-comm, mul-assoc, mul-right-comm, add-mul, zero-lt-suc, mul-le-mul-right, mul-lt-mul-of-pos-right, le-of-mul-le-mul-right, eq-of-mul-eq-mul-right, div-add-mod', div-eq-of-lt, mod-eq-of-lt, div-one}
+use native.Mathlib.Nat.{sub-add-cancel, mod-one, le-of-lt, le-trans, le-of-eq, lt-of-lt-of-le, lt-of-le-of-lt, mul-one, one-mul, zero-mul, mul-comm, mul-assoc, mul-right-comm, add-mul, zero-lt-suc, mul-le-mul-right, mul-lt-mul-of-pos-right, le-of-mul-le-mul-right, eq-of-mul-eq-mul-right, div-add-mod', div-eq-of-lt, mod-eq-of-lt, div-one}
 use native.Mathlib.Omega.{arith}
 use mathlib.Core.Bool.{Bool, true}
 use lib.Dec.{lit≤, lit<, leb, eqb, leb→le, le→leb, eqb→eq}
@@ -13,6 +13,7 @@ use lib.Ieee.Nearest.{div-same}
 use lib.Ieee.Positive.{num, den, den-pos}
 use borrow.Author.Tests.{ne-eqb}
 use Rattle.double.specs.Parts.{PartsOf, SplitOf}
+use Rattle.double.proofs.Zeros.{factor-zero}
 use Rattle.double.proofs.Orders.{bool-ext, order-ext, order-lt}
 
 -- ---- equal fractions a / c and b / d
@@ -31,11 +32,8 @@ rest-same a c b d C D e =
 none-same : (x c y d : ℕ) → 0 < c → 0 < d → x * d ≡ y * c → eqb x 0 ≡ eqb y 0
 none-same x c y d C D e =
     bool-ext (eqb x 0) (eqb y 0)
-    (λ t. eq→eqb (none y c C (sym e ∙ ap (λ (z : ℕ). z * d) (eqb→eq x 0 t) ∙ zero-mul d)))
-    (λ t. eq→eqb (none x d D (e ∙ ap (λ (z : ℕ). z * c) (eqb→eq y 0 t) ∙ zero-mul c)))
-  where
-    none : (y c : ℕ) → 0 < c → y * c ≡ 0 → y ≡ 0
-    none y c h e = eq-of-mul-eq-mul-right c h y 0 (e ∙ sym (zero-mul c))
+    (λ t. eq→eqb (factor-zero y c C (sym e ∙ ap (λ (z : ℕ). z * d) (eqb→eq x 0 t) ∙ zero-mul d)))
+    (λ t. eq→eqb (factor-zero x d D (e ∙ ap (λ (z : ℕ). z * c) (eqb→eq y 0 t) ∙ zero-mul c)))
 
 pub half-same : (x c y d : ℕ) → 0 < c → 0 < d → x * d ≡ y * c → compare (x * 2) c ≡ compare (y * 2) d
 half-same x c y d C D e =
@@ -87,7 +85,7 @@ tiny-lt d k D K = lt-of-lt-of-le (shl-lt 53 k D) (pow-mono (room k K))
 
 tiny-half : (a : ℕ) → a < 2 ^ 1072 → compare (a * 2) (2 ^ 1074) ≡ Ordering·lt
 tiny-half a h = order-ext (compare (a * 2) (2 ^ 1074)) Ordering·lt
-    (bool-ext (leb (a * 2) (2 ^ 1074)) true (λ t. tt) (λ t. le→leb (a * 2) (2 ^ 1074) (le-trans (mul-le-mul-right 2 (native.Mathlib.Nat.le-of-lt h)) (lit≤ tt))))
+    (bool-ext (leb (a * 2) (2 ^ 1074)) true (λ t. tt) (λ t. le→leb (a * 2) (2 ^ 1074) (le-trans (mul-le-mul-right 2 (le-of-lt h)) (lit≤ tt))))
     (ne-eqb (a * 2) (2 ^ 1074) (λ e. native.Mathlib.Nat.lt-irrefl (2 ^ 1074) (subst (λ (z : ℕ). z < 2 ^ 1074) e (lt-of-lt-of-le (mul-lt-mul-of-pos-right h (zero-lt-suc 1)) (lit≤ tt)))))
 
 -- so 0 or a quarter stands for it
@@ -110,13 +108,10 @@ split-tiny x s d k r p K e =
     any : eqb r 0 ≡ eqb d 0
     any = bool-ext (eqb r 0) (eqb d 0) (λ t. eq→eqb {a = d} {b = 0} (omega (arith, eqb→eq r 0 t))) (λ t. eq→eqb {a = r} {b = 0} (omega (arith, eqb→eq d 0 t)))
 
-shift-back : (k : ℕ) → k < 1074 → 1074 - k + k ≡ 1074
-shift-back k h = omega arith
-
 pub split-mid : (x : Float) (s : Bool) (d k u : ℕ) → PartsOf x s d k → k < 1074 → u ≡ 2 ^ (1074 - k) → SplitOf x (d / u) (d % u) u
 split-mid x s d k u p K e =
     let U : 0 < u = subst (λ (z : ℕ). 0 < z) (sym e) (pow-pos (1074 - k)) in
-    let w : u * 2 ^ k ≡ 2 ^ 1074 = ap (λ (z : ℕ). z * 2 ^ k) e ∙ sym (pow-add 2 (1074 - k) k) ∙ ap (λ (z : ℕ). 2 ^ z) (shift-back k K) in
+    let w : u * 2 ^ k ≡ 2 ^ 1074 = ap (λ (z : ℕ). z * 2 ^ k) e ∙ sym (pow-add 2 (1074 - k) k) ∙ ap (λ (z : ℕ). 2 ^ z) (sub-add-cancel (le-of-lt K)) in
     let c : num x * u ≡ d * den x =
     eq-of-mul-eq-mul-right (2 ^ k) (pow-pos k) (num x * u) (d * den x)
     (mul-assoc (num x) u (2 ^ k) ∙ ap (λ (z : ℕ). num x * z) w ∙ parts-cross x s d k p ∙ mul-right-comm d (2 ^ k) (den x)) in
@@ -130,25 +125,19 @@ up-cross : (x : Float) (s : Bool) (d k : ℕ) → PartsOf x s d k → 1074 ≤ k
 up-cross x s d k p K =
     eq-of-mul-eq-mul-right (2 ^ 1074) (pow-pos 1074) (num x * 1) (d * 2 ^ (k - 1074) * den x)
     (ap (λ (z : ℕ). z * 2 ^ 1074) (mul-one (num x)) ∙ parts-cross x s d k p
-    ∙ ap (λ (z : ℕ). d * z * den x) (ap (λ (z : ℕ). 2 ^ z) (sym (fore k K)) ∙ pow-add 2 (k - 1074) 1074)
+    ∙ ap (λ (z : ℕ). d * z * den x) (ap (λ (z : ℕ). 2 ^ z) (sym (sub-add-cancel K)) ∙ pow-add 2 (k - 1074) 1074)
     ∙ ap (λ (z : ℕ). z * den x) (sym (mul-assoc d (2 ^ (k - 1074)) (2 ^ 1074)))
     ∙ mul-right-comm (d * 2 ^ (k - 1074)) (2 ^ 1074) (den x))
-  where
-    fore : (k : ℕ) → 1074 ≤ k → k - 1074 + 1074 ≡ k
-    fore k h = omega arith
 
 split-one : (x : Float) (a w : ℕ) → num x * 1 ≡ a * den x → w ≡ min a 18446744073709551615 → SplitOf x w 0 1
 split-one x a w c e =
     let q = same-at x a 1 (zero-lt-suc 0) c in
     record {
       cut = e ∙ ap (λ (z : ℕ). min z 18446744073709551615) (sym (div-one a)) ∙ q .cut;
-      none = sym (ap (λ (z : ℕ). eqb z 0) (nothing a)) ∙ q .none;
-      half = sym (ap (λ (z : ℕ). compare (z * 2) 1) (nothing a)) ∙ q .half;
+      none = sym (ap (λ (z : ℕ). eqb z 0) (mod-one a)) ∙ q .none;
+      half = sym (ap (λ (z : ℕ). compare (z * 2) 1) (mod-one a)) ∙ q .half;
       room = lit< tt;
     }
-  where
-    nothing : (a : ℕ) → a % 1 ≡ 0
-    nothing a = omega arith
 
 pub split-high : (x : Float) (s : Bool) (d k : ℕ) → PartsOf x s d k → 1074 ≤ k → k < 1086 → SplitOf x (d * 2 ^ (k - 1074) % 2 ^ 64) 0 1
 split-high x s d k p K L =

@@ -1,7 +1,7 @@
 -- The whole numbers near a double, by the tests that code makes. Assumes nothing.
 use mathlib.Core.Path.{_≡_, refl, sym, ap, _∙_}
-use Prim.Native.Nat.{ℕ, zero, suc, _+_, _*_, _/_, _%_, _≤_, _<_, min, compare, Ordering, Ordering·lt, Ordering·eq, Ordering·gt}
-use native.Mathlib.Nat.{zero-mul, mul-pos, zero-lt-suc, zero-div, zero-mod}
+use Prim.Native.Nat.{ℕ, _+_, _*_, _/_, _%_, _≤_, _<_, min, compare, Ordering, Ordering·lt, Ordering·eq, Ordering·gt}
+use native.Mathlib.Nat.{zero-mul, zero-div, zero-mod}
 use native.Mathlib.Omega.{arith}
 use mathlib.Core.Bool.{Bool, true, false, cond, true≢false}
 use borrow.Author.Tests.{ltb-false, eq-eqb, ne-eqb}
@@ -14,22 +14,14 @@ use lib.Ieee.Positive.{num, den}
 use Rattle.double.specs.Parts.{SplitOf, NearOf}
 use Rattle.double.specs.Whole.{most, natOf, floorAt, ceilAt, ceilOf, away, roundAt, roundOf, isWhole}
 use Rattle.double.proofs.Orders.{away-lt, away-ge}
+use Rattle.double.proofs.Zeros.{factor-zero, zero-side}
+use Rattle.double.proofs.Plain.{Plain, plain}
 
 pub below-zero : (m : ℕ) (e : ℤ) → ltb (0 * 1 * down e) (m * up e * 1) ≡ false → m ≡ 0
-below-zero m e h = none m (up e) (up-pos e) (ltb-false (0 * 1 * down e) (m * up e * 1) h)
+below-zero m e h = factor-zero m (up e) (up-pos e) (none (m * up e) (0 * 1 * down e) (zero-side (down e)) (ltb-false (0 * 1 * down e) (m * up e * 1) h))
   where
-    zero-or : (m : ℕ) → (0 < m → ⊥) → m ≡ 0
-    zero-or zero f = refl
-    zero-or (suc m) f = absurd (f (zero-lt-suc m))
-
-    not-less : (a d : ℕ) → 0 < a → a * 1 ≤ 0 * 1 * d → ⊥
-    not-less a d h l = bad a (0 * 1 * d) (ap (λ (z : ℕ). z * d) (zero-mul 1) ∙ zero-mul d) h l
-      where
-        bad : (a z : ℕ) → z ≡ 0 → 0 < a → a * 1 ≤ z → ⊥
-        bad a z e h l = omega arith
-
-    none : (m u : ℕ) → 0 < u → m * u * 1 ≤ 0 * 1 * down e → m ≡ 0
-    none m u U l = zero-or m (λ h. not-less (m * u) (down e) (mul-pos h U) l)
+    none : (a z : ℕ) → z ≡ 0 → a * 1 ≤ z → a ≡ 0
+    none a z e h = omega arith
 
 pub nat-none : (g : ℕ → ℕ → ℕ) → ((c : ℕ) → 0 < c → g 0 c ≡ 0) → (x : Float) → lt (fin false 0 (pos 0)) x ≡ false → natOf g x ≡ 0
 unfolding natOf lt
@@ -47,12 +39,17 @@ nat-over g (inf true) h f = absurd (true≢false (sym h))
 nat-over g (inf false) h f = refl
 nat-over g (fin s m e) h f = absurd (true≢false f)
 
-pub nat-at : (g : ℕ → ℕ → ℕ) (x : Float) → lt (fin false 0 (pos 0)) x ≡ true → finite x ≡ true → natOf g x ≡ min (g (num x) (den x)) most
-unfolding natOf lt
-nat-at g nan h f = absurd (true≢false (sym f))
-nat-at g (inf s) h f = absurd (true≢false (sym f))
-nat-at g (fin true m e) h f = absurd (true≢false (sym h))
-nat-at g (fin false m e) h f = refl
+-- of what is finite and not negative: cut short at the largest u64
+pub nat-plain : (g : ℕ → ℕ → ℕ) (x : Float) → Plain x → natOf g x ≡ min (g (num x) (den x)) most
+unfolding natOf
+nat-plain g x p = plain (λ (x : Float). natOf g x ≡ min (g (num x) (den x)) most) (λ m e. refl) x p
+
+pub plain-above : (x : Float) → lt (fin false 0 (pos 0)) x ≡ true → finite x ≡ true → Plain x
+unfolding lt
+plain-above nan h f = absurd (true≢false (sym f))
+plain-above (inf s) h f = absurd (true≢false (sym f))
+plain-above (fin true m e) h f = absurd (true≢false (sym h))
+plain-above (fin false m e) h f = refl
 
 pub whole-at : (x : Float) → finite x ≡ true → isWhole x ≡ eqb (num x % den x) 0
 unfolding isWhole
@@ -81,12 +78,14 @@ round-zero c C =
 
 -- ---- the whole numbers near x, by what `near` returns
 pub near-split : (x : Float) (w r u : ℕ) → lt (fin false 0 (pos 0)) x ≡ true → finite x ≡ true → SplitOf x w r u → NearOf x w r u
-near-split x w r u h f s = record {
-  floors = nat-at floorAt x h f ∙ sym (s .cut);
-  ceils = nat-at ceilAt x h f ∙ ap (λ (z : Bool). min (num x / den x + cond z 0 1) most) (sym (s .none)) ∙ added (num x / den x) w (cond (eqb r 0) 0 1) (s .cut);
-  rounds = nat-at roundAt x h f ∙ ap (λ (o : Ordering). min (away (num x / den x) o) most) (sym (s .half)) ∙ chosen (num x / den x) w (s .cut) (compare (r * 2) u);
-  room = s .room;
-}
+near-split x w r u h f s =
+    let p = plain-above x h f in
+    record {
+      floors = nat-plain floorAt x p ∙ sym (s .cut);
+      ceils = nat-plain ceilAt x p ∙ ap (λ (z : Bool). min (num x / den x + cond z 0 1) most) (sym (s .none)) ∙ added (num x / den x) w (cond (eqb r 0) 0 1) (s .cut);
+      rounds = nat-plain roundAt x p ∙ ap (λ (o : Ordering). min (away (num x / den x) o) most) (sym (s .half)) ∙ chosen (num x / den x) w (s .cut) (compare (r * 2) u);
+      room = s .room;
+    }
   where
     added : (q w k : ℕ) → w ≡ min q most → min (q + k) most ≡ min (w + k) most
     added q w k e = omega arith

@@ -1,5 +1,5 @@
 -- The definitions that the contracts of `double` cite, and those of the crates above it.
 pub mod Whole
-pub mod Parts
 pub mod Seconds
 pub mod Stream
+pub mod Parts

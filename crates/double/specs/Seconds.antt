@@ -1,10 +1,10 @@
 -- Nanoseconds and a double's seconds. Definitions only.
 use mathlib.Core.Path.{_≡_, refl}
-use Prim.Native.Nat.{ℕ, _+_, _*_, _/_, _%_, _^_, min, compare}
+use Prim.Native.Nat.{ℕ, _*_, _/_, _%_, compare}
 use mathlib.Core.Bool.{false}
 use lib.IntN.{pos}
 use lib.Ieee.{Float, fin, binary64, add, div, ofInt, nearest}
-use Rattle.double.specs.Whole.{most, natOf}
+use Rattle.double.specs.Whole.{natOf}
 
 -- 1e9, with its control
 abbrev pub giga : Float
@@ -25,11 +25,3 @@ nanosAt a c = nearest (a * 1000000000 / c) (compare (a * 1000000000 % c * 2) c)
 -- 01: rounding the double's seconds to nanoseconds, ties to even. Rust's `Duration::from_secs_f64`
 abbrev pub nanosOf : Float → ℕ
 nanosOf x = natOf nanosAt x
-
--- q, or one more, where (t + s / 2 ^ 26) / u is left over, up to the largest u64
-unfoldable pub toEven : ℕ → ℕ → ℕ → ℕ → ℕ
-toEven q t u s = min (nearest q (compare ((t * 67108864 + s) * 2) (u * 67108864))) most
-
--- the nanoseconds of d * 2 ^ k / 2 ^ 1074 seconds
-unfoldable pub nanosBy : ℕ → ℕ → ℕ
-nanosBy d k = min (nanosAt (d * 2 ^ k) (2 ^ 1074)) most

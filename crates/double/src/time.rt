@@ -1,7 +1,8 @@
 // Nanoseconds and a double's seconds, as Rust's `Duration` turns one into the other.
 ghost use mathlib.Core.Path.{_≡_};
 ghost use Prim.Native.Nat.{_%_, _<_, _≤_, _^_};
-ghost use Rattle.double.specs.Seconds.{secondsOf, nanosOf, toEven, nanosBy};
+ghost use Rattle.double.specs.Seconds.{secondsOf, nanosOf};
+ghost use Rattle.double.specs.Parts.{toEven, nanosBy};
 use super::parts::MOST;
 use super::parts::apart;
 use super::parts::saturating_add;
@@ -34,8 +35,11 @@ fn to_even(q: u64, t: u64, u: u64, s: u64) -> u64
     saturating_add(q, 1)
 }
 
-// d * 1e9 has 83 bits: it is kept as b * LIMB + r. MOST / LIMB is 2^38 - 1 and something: from 2^38 on the number is past it.
+// 2^26: d * 1e9 has 83 bits, and is kept as b * LIMB + r.
 const LIMB: u64 = 67108864;
+
+// 2^38 = 2^64 / LIMB: where b / u reaches it, the number is past MOST.
+const PAST: u64 = 274877906944;
 
 // The nanoseconds of d * 2^k / 2^1074 seconds.
 fn nanos_of(d: u64, k: u64) -> u64
@@ -56,7 +60,7 @@ fn nanos_of(d: u64, k: u64) -> u64
         return to_even(b / u, b % u, u, r);
     }
     let u: u64 = 1 << (1074 - k);
-    if b / 274877906944 >= u {
+    if b / PAST >= u {
         return MOST;
     }
     to_even(b * (LIMB / u) + r / u, r % u, u, 0)

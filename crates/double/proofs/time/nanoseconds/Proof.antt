@@ -5,7 +5,7 @@ use borrow.Author.Needs.{needs}
 use lib.Dec.{T}
 use lib.Ieee.{ofBits}
 use Rattle.double.specs.Seconds.{nanosAt}
-use Rattle.double.proofs.Wholes.{nat-at, nat-none, nat-over}
+use Rattle.double.proofs.Wholes.{nat-plain, plain-above, nat-none, nat-over}
 use Rattle.double.proofs.Nanos.{by-parts, nanos-zero}
 use Rattle.double.proofs.time.nanoseconds.Statement.{statement}
 use Rattle.double.proofs.time.nanoseconds.Tie as tie
@@ -26,7 +26,7 @@ returns c =
     let x = k .before .before .before .before .args .x in
     c .nanos-of .ensures
     ∙ by-parts x (k .apart .result .negative) (k .apart .result .digits) (k .apart .result .scale) (k .apart .ensures)
-    ∙ sym (nat-at nanosAt x (k .before .before .before .if1 .taken) (sym (k .before .before .is-finite .ensures) ∙ k .before .if2 .taken))
+    ∙ sym (nat-plain nanosAt x (plain-above x (k .before .before .before .if1 .taken) (sym (k .before .before .is-finite .ensures) ∙ k .before .if2 .taken)))
 
 returns-2 : tie.Need-returns-2
 unfolding ofBits
