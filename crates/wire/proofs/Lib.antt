@@ -1,0 +1,5 @@
+-- The laws of `wire`: a file imports only what stands above it here.
+pub mod Samples
+pub mod Turns
+pub mod Headers
+pub mod Meanings

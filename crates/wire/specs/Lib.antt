@@ -1,0 +1,5 @@
+-- The definitions that the contracts of `wire` cite, and those of the crates above it.
+pub mod Answer
+pub mod Iq
+pub mod Turn
+pub mod Sequence
