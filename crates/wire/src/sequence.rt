@@ -97,11 +97,12 @@ impl SeqTracker {
         let SeqEvent::Stale = event else {
             return rebaseline(seq, event);
         };
+        let stale_run = self.stale_run + 1;
         Observed {
             event,
             tracker: SeqTracker {
-                expected,
-                stale_run: self.stale_run + 1,
+                expected: Expected::Next(next),
+                stale_run,
             },
         }
     }

@@ -46,8 +46,8 @@ returns-2 c =
     seen-accepted (a .self) (a .seq) (k .expected .given .0 .0) (j .judge .result) (k .expected .given .1) (j .judge .ensures) (c .rebaseline2 .result)
     (λ e. none (subst (λ (x : SeqEvent). OneOf (0 ∷ 1 ∷ 3 ∷ []) (tagOf the-type x)) e (c .before .match2 .keys2))) (c .rebaseline2 .ensures)
 
-add-t7 : tie.Need-add-t7
-add-t7 c =
+add-stale-run : tie.Need-add-stale-run
+add-stale-run c =
     let t = c .before in
     let j = t .before .before in
     let k = j .before .before in
@@ -74,5 +74,5 @@ observe-spec =
     enum-told-2
     rebaseline-requires-2
     returns-2
-    add-t7
+    add-stale-run
     returns-3)
