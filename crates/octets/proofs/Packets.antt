@@ -8,7 +8,7 @@ use lib.ListN.{length, getD, set, drop, length-set, length-replicate, getD-repli
 use lib.Dec.{T, leb, eqb, leb→le, eqb→eq}
 use lib.Ieee.Fits.{and-l, and-r}
 use borrow.Author.Fill.{fill-more}
-use native.Mathlib.Nat.{add-zero}
+use native.Mathlib.Nat.{add-zero, mod-eq-of-lt}
 use native.Mathlib.Omega.{arith}
 use Rattle.octets.specs.Written.{written}
 use Rattle.octets.specs.Number.{be, beAt}
@@ -142,6 +142,16 @@ pub read-back : (n : ℕ) (fs : List Field) → T (within n fs) → T (apart fs)
     → Each (λ f. beAt (f .width) (packet n fs) (f .at) ≡ f .value % 256 ^ f .width) fs
 unfolding packet
 read-back n fs t a = read-stored fs n (zeros n) (length-zeros n) t a
+
+-- what follows of a field from two facts follows of each
+each-both : {P Q R : Field → Type 0} → ((f : Field) → P f → Q f → R f) → (fs : List Field) → Each P fs → Each Q fs → Each R fs
+each-both h [] p q = tt
+each-both h (f ∷ fs) p q = (h f (p .0) (q .0), each-both h fs (p .1) (q .1))
+
+-- whole, where each value fits its octets
+pub read-exact : (n : ℕ) (fs : List Field) → T (within n fs) → T (apart fs) → Each (λ f. f .value < 256 ^ f .width) fs
+    → Each (λ f. beAt (f .width) (packet n fs) (f .at) ≡ f .value) fs
+read-exact n fs t a v = each-both (λ f e l. e ∙ mod-eq-of-lt l) fs (read-back n fs t a) v
 
 -- an octet that no field names
 pub unnamed : (n : ℕ) (fs : List Field) (i : ℕ) → T (within n fs) → i < n → T (outside i 1 fs) → getD (packet n fs) i 0 ≡ 0

@@ -1,4 +1,7 @@
 -- The laws of `wire`: a file imports only what stands above it here.
+pub mod Boards
+pub mod Sents
+pub mod ReadBack
 pub mod Samples
 pub mod Turns
 pub mod Headers
