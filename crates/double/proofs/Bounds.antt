@@ -1,7 +1,7 @@
 -- Upper bounds through rounding: what stays at or below a whole number that is a double. Assumes nothing.
 use mathlib.Core.Path.{_≡_, refl, sym, ap, _∙_, subst}
-use Prim.Native.Nat.{ℕ, _+_, _-_, _*_, _^_, _≤_, _<_}
-use native.Mathlib.Nat.{le-trans, le-of-eq, le-of-lt, mul-one, mul-assoc, mul-right-comm, mul-pos, add-mul, mul-le-mul, mul-le-mul-right, le-of-mul-le-mul-right, add-le-add, mul-mul-mul-comm, zero-lt-suc}
+use Prim.Native.Nat.{ℕ, _+_, _*_, _^_, _≤_, _<_}
+use native.Mathlib.Nat.{le-trans, le-of-eq, le-of-lt, mul-one, mul-comm, mul-assoc, mul-right-comm, mul-pos, add-mul, mul-le-mul, mul-le-mul-right, le-of-mul-le-mul-right, add-le-add, mul-mul-mul-comm, zero-lt-suc}
 use native.Mathlib.Omega.{arith}
 use borrow.Author.Tests.{ne-eqb}
 use mathlib.Core.Bool.{Bool, true, false, cond, true≢false, _||_, _&&_}
@@ -12,9 +12,11 @@ use lib.Ieee.Fits.{up-pos, down-pos, and-l}
 use lib.Ieee.Exact.{HasValue}
 use lib.Ieee.Back.{round-whole}
 use lib.Ieee.Order.{round-mono}
-use lib.Ieee.Positive.{num, den, positive}
+use lib.Ieee.Scale.{round-same}
+use lib.Ieee.Positive.{num, den, positive, first-pos}
 use Rattle.double.proofs.Plain.{Plain, plain-two, of-positive}
 use Rattle.double.proofs.Signs.{minus?, round-sign}
+use Rattle.double.proofs.Values.{of-values}
 
 -- b is a double
 abbrev pub Exact : ℕ → Type 0
@@ -91,6 +93,21 @@ mul-up-to x y b c B p q = plain-two (λ (x y : Float). UpTo x b → UpTo y c →
 pub div-at : (m : ℕ) (e : ℤ) (n : ℕ) (d : ℤ) → 0 < n → div binary64 (fin false m e) (fin false n d) ≡ round binary64 false (m * up e * down d) (n * up d * down e)
 unfolding div
 div-at m e n d N = ap (λ (t : Bool). cond t (cond (eqb m 0) nan (inf false)) (round binary64 false (m * up e * down d) (n * up d * down e))) (ne-eqb n 0 (λ z. absurd (omega arith)))
+
+-- by any fractions that the two equal
+pub div-of-values : (x y : Float) (a c b d : ℕ) → 0 < c → 0 < b → HasValue x false a c → HasValue y false b d → div binary64 x y ≡ round binary64 false (a * d) (b * c)
+div-of-values x y a c b d C B v w = of-values (div binary64) (round binary64 false (a * d) (b * c)) a c b d divided x y v w
+  where
+    crossed : (x p y q : ℕ) → x * c ≡ a * p → y * d ≡ b * q → x * q * (b * c) ≡ a * d * (y * p)
+    crossed x p y q v w =
+        ap (λ (z : ℕ). x * q * z) (mul-comm b c) ∙ mul-mul-mul-comm x q c b ∙ ap (λ (z : ℕ). z * (q * b)) v ∙ ap (λ (z : ℕ). a * p * z) (mul-comm q b ∙ sym w ∙ mul-comm y d)
+        ∙ mul-mul-mul-comm a p d y ∙ ap (λ (z : ℕ). a * d * z) (mul-comm p y)
+
+    divided : (m : ℕ) (e : ℤ) (n : ℕ) (g : ℤ) → m * up e * c ≡ a * down e → n * up g * d ≡ b * down g → div binary64 (fin false m e) (fin false n g) ≡ round binary64 false (a * d) (b * c)
+    divided m e n g v w =
+        let N : 0 < n = first-pos n (up g) (first-pos (n * up g) d (subst (λ (z : ℕ). 0 < z) (sym w) (mul-pos B (down-pos g)))) in
+        div-at m e n g N
+        ∙ round-same binary64 false (m * up e * down g) (n * up g * down e) (a * d) (b * c) (mul-pos (mul-pos N (up-pos g)) (down-pos e)) (mul-pos B C) (crossed (m * up e) (down e) (n * up g) (down g) v w)
 
 -- x at most b times y
 pub div-up-to : (x y : Float) (b c : ℕ) → T (positive y) → Exact b → UpTo x c → c * den y ≤ b * num y → UpTo (div binary64 x y) b

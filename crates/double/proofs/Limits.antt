@@ -1,23 +1,22 @@
 -- What elapsed time and rate give, over 01's ranges: nothing is capped there, and the whole-number formulas hold. The rate is a parameter. Assumes nothing.
 use mathlib.Core.Path.{_≡_, refl, sym, ap, _∙_, subst}
 use Prim.Native.Nat.{ℕ, _+_, _-_, _*_, _/_, _%_, _^_, _≤_, _<_, min}
-use native.Mathlib.Nat.{le-trans, le-of-eq, mul-one, mul-comm, mul-assoc, mul-pos, mul-le-mul-left, zero-lt-suc}
+use native.Mathlib.Nat.{le-trans, le-of-eq, mul-one, mul-le-mul-left, zero-lt-suc}
 use native.Mathlib.Omega.{arith}
 use mathlib.Core.Bool.{Bool, true, false}
-use lib.IntN.{ℤ, pos}
+use lib.IntN.{pos}
 use borrow.Author.Tests.{ltb-true, ltb-false}
 use lib.Dec.{T, ltb, lit≤}
-use lib.Ieee.{Float, fin, binary64, up, down, round, sub, mul, div, ofInt}
+use lib.Ieee.{Float, binary64, up, down, round, sub, mul, div, ofInt}
 use lib.Ieee.Fits.{down-pos}
 use lib.Ieee.Exact.{HasValue}
 use lib.Ieee.Back.{round-whole}
-use lib.Ieee.Scale.{round-same}
 use lib.Ieee.Positive.{num, den, den-pos, positive}
 use Rattle.double.specs.Whole.{most, floorAt, floorOf, ceilAt, ceilOf, roundAt, rounded}
 use Rattle.double.specs.Seconds.{secondsOf, giga, nanosAt, nanosOf}
 use Rattle.double.specs.Stream.{perDatagram, slack, two, plausible, jumpLimit, restartMissing, accountTime, coveredTime, belowHalf}
-use Rattle.double.proofs.Bounds.{Exact, UpTo, exact-small, of-nat-up-to, add-up-to, mul-up-to, div-up-to, up-to-more, div-at, at-most, plain-up-to}
-use Rattle.double.proofs.Plain.{plain, of-value}
+use Rattle.double.proofs.Bounds.{Exact, UpTo, exact-small, of-nat-up-to, add-up-to, mul-up-to, div-up-to, up-to-more, div-of-values, at-most, plain-up-to}
+use Rattle.double.proofs.Plain.{plain}
 use Rattle.double.proofs.Floors.{exact-fraction}
 use Rattle.double.proofs.Wholes.{nat-plain}
 use Rattle.double.proofs.Fractions.{ceil-le, round-le}
@@ -109,18 +108,11 @@ half-plain n r rate N R v =
     lt-of-values (ofInt binary64 (pos n)) (div binary64 rate two) n 1 r 2 (zero-lt-suc 0) (zero-lt-suc 1) (round-whole binary64 false n N) (halved rate v)
     ∙ ap (ltb (n * 2)) (mul-one r)
   where
-    crossed : (r d : ℕ) → r * d * 2 ≡ r * (2 * d)
-    crossed r d = mul-assoc r d 2 ∙ ap (λ (z : ℕ). r * z) (mul-comm d 2)
-
-    halved-fin : (m : ℕ) (e : ℤ) → HasValue (fin false m e) false r 1 → HasValue (div binary64 (fin false m e) two) false r 2
-    halved-fin m e v =
-        subst (λ (y : Float). HasValue y false r 2)
-        (sym (div-at m e 1 (pos 1) (zero-lt-suc 0)
-        ∙ round-same binary64 false (m * up e * 1) (1 * 2 * down e) r 2 (mul-pos (zero-lt-suc 1) (down-pos e)) (zero-lt-suc 1) (ap (λ (z : ℕ). z * 2) (v .1) ∙ crossed r (down e))))
-        (exact-fraction binary64 false r 1 R (lit≤ tt))
-
     halved : (x : Float) → HasValue x false r 1 → HasValue (div binary64 x two) false r 2
-    halved x v = plain (λ (x : Float). HasValue x false r 1 → HasValue (div binary64 x two) false r 2) halved-fin x (of-value x r 1 v) v
+    halved x v =
+        subst (λ (y : Float). HasValue y false r 2)
+        (sym (div-of-values x two r 1 2 1 (zero-lt-suc 0) (zero-lt-suc 1) v (refl, refl) ∙ ap (λ (z : ℕ). round binary64 false z 2) (mul-one r)))
+        (exact-fraction binary64 false r 1 R (lit≤ tt))
 
 -- ---- a time that comes off an elapsed time: the cap makes no difference there
 nanos-less : (a : ℕ) (x : Float) (b : ℕ) → a ≤ most → UpTo x b → a - nanosOf x ≡ a - nanosAt (num x) (den x)

@@ -7,7 +7,7 @@ use mathlib.Core.Bool.{Bool, true, false, _||_, _&&_}
 use mathlib.Core.Logic.{_⊎_, inl, inr}
 use borrow.Author.Tests.{ltb-true, ltb-false}
 use lib.IntN.{ℤ, pos}
-use lib.Dec.{T, ltb, eqb, ltb→lt, eqb→eq}
+use lib.Dec.{T, ltb, eqb, eqb→eq}
 use lib.Ieee.{Float, nan, inf, fin, binary64, up, down, round, sum, add, mul, div, le, ofInt}
 use lib.Ieee.Fits.{down-pos, and-r}
 use lib.Ieee.Exact.{HasValue}
@@ -20,9 +20,10 @@ use Rattle.double.specs.Stream.{perDatagram, slack, plausible, jumpLimit
 use Rattle.double.proofs.Fractions.{Rising, ceil-rising, round-rising, nanos-rising}
 use Rattle.double.proofs.Wholes.{ceil-zero}
 use Rattle.double.proofs.Nanos.{nanos-zero}
-use Rattle.double.proofs.Bounds.{UpTo, le-cross, div-at, at-most, plain-up-to}
+use Rattle.double.proofs.Bounds.{UpTo, le-cross, div-of-values, at-most, plain-up-to}
 use Rattle.double.proofs.Zeros.{factor-zero}
-use Rattle.double.proofs.Plain.{Plain, plain-two, of-value, of-positive}
+use Rattle.double.proofs.Plain.{Plain, plain-two, of-value, own-fraction}
+use Rattle.double.proofs.Values.{mul-of-values}
 use Rattle.double.proofs.Limits.{fraction-up-to, count-up-to, datagrams-up-to, seconds-up-to, rate-up-to, product-up-to, samples-up-to, restart-plain}
 use Rattle.double.specs.Seconds.{secondsOf, giga, nanosAt, nanosOf}
 
@@ -59,11 +60,13 @@ unfolding le
 le-fraction x y p q = plain-two (λ (x y : Float). T (le x y) → num x * den y ≤ num y * den x) (λ m e n d. le-cross (m * up e * down d) (n * up d * down e)) x y p q
 
 mul-is : (x y : Float) → Plain x → Plain y → mul binary64 x y ≡ round binary64 false (num x * num y) (den x * den y)
-unfolding mul
-mul-is x y p q = plain-two (λ (x y : Float). mul binary64 x y ≡ round binary64 false (num x * num y) (den x * den y)) (λ m e n d. refl) x y p q
+mul-is x y p q = mul-of-values binary64 x y (num x) (den x) (num y) (den y) (den-pos x) (den-pos y) (own-fraction x p) (own-fraction y q)
+
+num-pos : (x : Float) → T (positive x) → 0 < num x
+num-pos x p = value-pos x (num x) (den x) p (den-pos x) (own-value x p)
 
 div-is : (x y : Float) → Plain x → T (positive y) → div binary64 x y ≡ round binary64 false (num x * den y) (num y * den x)
-div-is x y p q = plain-two (λ (x y : Float). T (positive y) → div binary64 x y ≡ round binary64 false (num x * den y) (num y * den x)) (λ m e n d r. div-at m e n d (ltb→lt 0 n r)) x y p (of-positive y q) q
+div-is x y p q = div-of-values x y (num x) (den x) (num y) (den y) (den-pos x) (num-pos y q) (own-fraction x p) (own-value y q)
 
 module _ (x y z : Float) (p : Plain x) (q : Plain y) (h : T (le x y)) where
   pub mul-rising : Plain z → T (le (mul binary64 x z) (mul binary64 y z))
@@ -76,12 +79,9 @@ module _ (x y z : Float) (p : Plain x) (q : Plain y) (h : T (le x y)) where
   pub div-rising : T (positive z) → T (le (div binary64 x z) (div binary64 y z))
   div-rising r =
       subst₂ (λ (a b : Float). T (le a b)) (sym (div-is x z p r)) (sym (div-is y z q r))
-      (round-mono binary64 (num x * den z) (num z * den x) (num y * den z) (num z * den y) (mul-pos num-pos (den-pos x)) (mul-pos num-pos (den-pos y))
+      (round-mono binary64 (num x * den z) (num z * den x) (num y * den z) (num z * den y) (mul-pos (num-pos z r) (den-pos x)) (mul-pos (num-pos z r) (den-pos y))
       (subst₂ (λ (a b : ℕ). a ≤ b) (scaled (num x) (den y) (den z) (num z)) (scaled (num y) (den x) (den z) (num z)) (mul-le-mul-right (den z * num z) (le-fraction x y p q h))))
     where
-      num-pos : 0 < num z
-      num-pos = value-pos z (num z) (den z) r (den-pos z) (own-value z r)
-
       scaled : (a i g n : ℕ) → a * i * (g * n) ≡ a * g * (n * i)
       scaled a i g n = mul-mul-mul-comm a i g n ∙ ap (λ (z : ℕ). a * g * z) (mul-comm i n)
 

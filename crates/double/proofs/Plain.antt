@@ -1,12 +1,12 @@
 -- Doubles that are finite and not negative: what holds of every such number holds of them. Assumes nothing.
-use Prim.Native.Nat.{ℕ}
-use mathlib.Core.Path.{_≡_}
+use Prim.Native.Nat.{ℕ, _*_}
+use mathlib.Core.Path.{_≡_, refl}
 use mathlib.Core.Bool.{true, false, true≢false}
 use lib.IntN.{ℤ}
 use lib.Dec.{T}
 use lib.Ieee.{Float, nan, inf, fin}
 use lib.Ieee.Exact.{HasValue}
-use lib.Ieee.Positive.{positive}
+use lib.Ieee.Positive.{num, den, positive}
 
 abbrev pub Plain : Float → Type 0
 Plain nan = ⊥
@@ -31,4 +31,11 @@ pub of-positive : (x : Float) → T (positive x) → Plain x
 of-positive nan p = p
 of-positive (inf s) p = p
 of-positive (fin true m e) p = absurd p
-of-positive (fin false m e) p = mathlib.Core.Path.refl
+of-positive (fin false m e) p = refl
+
+-- such a number has each fraction that it equals, its own among them
+pub has-value : (x : Float) (a c : ℕ) → Plain x → num x * c ≡ a * den x → HasValue x false a c
+has-value x a c = plain (λ (x : Float). num x * c ≡ a * den x → HasValue x false a c) (λ m e h. (refl, h)) x
+
+pub own-fraction : (x : Float) → Plain x → HasValue x false (num x) (den x)
+own-fraction x p = has-value x (num x) (den x) p refl

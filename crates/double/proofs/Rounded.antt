@@ -1,6 +1,6 @@
 -- Rust's `x.round()`, a double again: a whole double is its own, and from 2 ^ 52 on each is whole. Assumes nothing.
 use mathlib.Core.Path.{_≡_, refl, sym, ap, _∙_, subst}
-use Prim.Native.Nat.{ℕ, zero, suc, _+_, _-_, _*_, _/_, _%_, _^_, _≤_, _<_, min, compare, Ordering, Ordering·lt, Ordering·eq, Ordering·gt}
+use Prim.Native.Nat.{ℕ, zero, suc, _+_, _*_, _/_, _%_, _^_, _≤_, _<_, min, compare, Ordering, Ordering·lt, Ordering·eq, Ordering·gt}
 use native.Mathlib.Nat.{le-trans, le-of-lt, mul-one, mul-assoc, zero-mul, mul-pos, zero-lt-suc, add-zero, not-le-of-lt, div-add-mod', div-lt-iff-lt-mul, mul-le-mul-left, zero-mod, mod-one}
 use native.Mathlib.Omega.{arith}
 use mathlib.Core.Bool.{Bool, true, false, true≢false}
@@ -31,7 +31,7 @@ exponent-le i j h = go (leb i j) refl
     go false e = absurd (not-le-of-lt (pow-lt (leb-false i j e)) h)
 
 module _ (f : Format) (s : Bool) (m : ℕ) where
-  up-value : (k : ℕ) → m < 2 ^ prec f → m * 2 ^ k < 2 ^ suc (emax f) → HasValue (round f s (m * 2 ^ k) 1) s (m * 2 ^ k) 1
+  pub up-value : (k : ℕ) → m < 2 ^ prec f → m * 2 ^ k < 2 ^ suc (emax f) → HasValue (round f s (m * 2 ^ k) 1) s (m * 2 ^ k) 1
   up-value k P B =
       round-exact f s (m * 2 ^ k) 1 m (k + low f) (zero-lt-suc 0) P
       (subst (λ (z : ℕ). z < 2 ^ (low f + suc (emax f))) (mul-assoc m (2 ^ k) (2 ^ low f) ∙ ap (λ (z : ℕ). m * z) (sym (pow-add 2 k (low f))))
@@ -58,7 +58,7 @@ round-own f s m e t =
 round-at-whole : (a c : ℕ) → 0 < c → a % c ≡ 0 → roundAt a c ≡ a / c
 round-at-whole a c C z = ap (λ (r : ℕ). away (a / c) (compare (r * 2) c)) z ∙ away-lt (0 * 2) c (a / c) C
 
-div-whole : (a c : ℕ) → a % c ≡ 0 → a / c * c ≡ a * 1
+pub div-whole : (a c : ℕ) → a % c ≡ 0 → a / c * c ≡ a * 1
 div-whole a c z = sym (add-zero (a / c * c)) ∙ ap (λ (r : ℕ). a / c * c + r) (sym z) ∙ div-add-mod' a c ∙ sym (mul-one a)
 
 -- what is not finite, and what is whole

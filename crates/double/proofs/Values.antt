@@ -1,18 +1,20 @@
--- Doubles that have a whole or a fractional value exactly: their floor, their difference and how they compare. Assumes nothing.
-use mathlib.Core.Path.{_≡_, refl, sym, ap, _∙_}
-use Prim.Native.Nat.{ℕ, _-_, _*_, _/_, _≤_, _<_, min}
-use native.Mathlib.Nat.{mul-one, mul-comm, mul-assoc, mul-right-comm, mul-pos, mul-sub, mul-mul-mul-comm, zero-lt-suc, not-le-of-lt, mul-le-mul-right, mul-lt-mul-of-pos-right, lt-of-mul-lt-mul-right, lt-of-le-of-lt, lt-of-lt-of-le, le-of-eq, div-one}
+-- Doubles that have a whole or a fractional value exactly: their floor, their difference, their product and how they compare. Assumes nothing.
+use mathlib.Core.Path.{_≡_, refl, sym, ap, _∙_, subst}
+use Prim.Native.Nat.{ℕ, _-_, _*_, _/_, _^_, _≤_, _<_, min}
+use native.Mathlib.Nat.{mul-one, mul-comm, mul-assoc, mul-right-comm, mul-pos, mul-sub, mul-mul-mul-comm, zero-lt-suc, not-le-of-lt, mul-le-mul-right, mul-lt-mul-of-pos-right, lt-of-mul-lt-mul-right, lt-of-le-of-lt, lt-of-lt-of-le, le-of-eq, div-one, zero-mul, lt-irrefl, eq-of-mul-eq-mul-right}
 use native.Mathlib.Omega.{arith}
 use mathlib.Core.Bool.{Bool, true, false, not, cond, true≢false}
-use lib.IntN.{ℤ}
-use lib.Dec.{T, ltb, ltb→lt, nltb→le, lt→ltb}
-use lib.Ieee.{Float, nan, inf, fin, Format, up, down, round, sum, sub, lt}
-use lib.Ieee.Fits.{down-pos}
+use lib.IntN.{ℤ, pos}
+use lib.Dec.{T, ltb, eqb, eqb→eq, ltb→lt, nltb→le, lt→ltb}
+use lib.Ieee.{Float, nan, inf, fin, Format, prec, up, down, round, sum, sub, mul, lt, eq, ofInt}
+use lib.Ieee.Fits.{down-pos, and-l, and-r}
 use lib.Ieee.Exact.{HasValue}
+use lib.Ieee.Back.{round-whole}
 use lib.Ieee.Scale.{round-same}
 use Rattle.double.specs.Whole.{most, natOf, floorOf}
 use Rattle.double.proofs.Orders.{bool-ext}
-use Rattle.double.proofs.Plain.{plain-two, of-value}
+use Rattle.double.proofs.Zeros.{factor-zero}
+use Rattle.double.proofs.Plain.{plain, plain-two, of-value}
 use Rattle.double.proofs.Signs.{minus?}
 use Rattle.double.proofs.Floors.{cut-of-value, cast-is-floor}
 
@@ -83,7 +85,7 @@ module _ (f : Format) (m : ℕ) (e : ℤ) (n : ℕ) (d : ℤ) (i k : ℕ) (v : m
       ∙ round-same f true (k * (down e * down d) - i * (down e * down d)) (down e * down d) (k - i) 1 both (zero-lt-suc 0) (over k i (down e * down d))
 
 -- what holds of two such numbers holds of two doubles that have their values
-of-values : {A : Type 0} (g : Float → Float → A) (r : A) (i c k d : ℕ)
+pub of-values : {A : Type 0} (g : Float → Float → A) (r : A) (i c k d : ℕ)
     → ((m : ℕ) (e : ℤ) (n : ℕ) (p : ℤ) → m * up e * c ≡ i * down e → n * up p * d ≡ k * down p → g (fin false m e) (fin false n p) ≡ r)
     → (x y : Float) → HasValue x false i c → HasValue y false k d → g x y ≡ r
 of-values g r i c k d f x y v w =
@@ -94,6 +96,21 @@ sub-ge f x y i k v w h = of-values (sub f) (round f false (i - k) 1) i 1 k 1 (λ
 
 pub sub-lt : (f : Format) (x y : Float) (i k : ℕ) → HasValue x false i 1 → HasValue y false k 1 → i < k → sub f x y ≡ round f true (k - i) 1
 sub-lt f x y i k v w h = of-values (sub f) (round f true (k - i) 1) i 1 k 1 (λ m e n d p q. fin-lt f m e n d i k p q h) x y v w
+
+-- ---- a product, 0 included
+pub mul-of-values : (f : Format) (x y : Float) (a c b d : ℕ) → 0 < c → 0 < d → HasValue x false a c → HasValue y false b d → mul f x y ≡ round f false (a * b) (c * d)
+unfolding mul
+mul-of-values f x y a c b d C D v w = of-values (mul f) (round f false (a * b) (c * d)) a c b d multiplied x y v w
+  where
+    multiplied : (m : ℕ) (e : ℤ) (n : ℕ) (g : ℤ) → m * up e * c ≡ a * down e → n * up g * d ≡ b * down g → mul f (fin false m e) (fin false n g) ≡ round f false (a * b) (c * d)
+    multiplied m e n g v w =
+        round-same f false (m * up e * (n * up g)) (down e * down g) (a * b) (c * d) (mul-pos (down-pos e) (down-pos g)) (mul-pos C D)
+        (mul-mul-mul-comm (m * up e) (n * up g) c d ∙ ap (λ (z : ℕ). z * (n * up g * d)) v ∙ ap (λ (z : ℕ). a * down e * z) w ∙ mul-mul-mul-comm a (down e) b (down g))
+
+-- two whole numbers that are values of the format: rounded once
+pub mul-whole : (f : Format) (a b : ℕ) → a ≤ 2 ^ prec f → b ≤ 2 ^ prec f → mul f (ofInt f (pos a)) (ofInt f (pos b)) ≡ ofInt f (pos (a * b))
+unfolding ofInt
+mul-whole f a b A B = mul-of-values f (ofInt f (pos a)) (ofInt f (pos b)) a 1 b 1 (zero-lt-suc 0) (zero-lt-suc 0) (round-whole f false a A) (round-whole f false b B)
 
 -- ---- how they compare: as their fractions do
 crossed : (x p y q a c b d : ℕ) → 0 < c → 0 < d → x * c ≡ a * p → y * d ≡ b * q → x * q < y * p → a * d < b * c
@@ -118,3 +135,26 @@ lt-of-values x y a c b d C D v w = of-values lt (ltb (a * d) (b * c)) a c b d co
         bool-ext (ltb (m * up e * down g) (n * up g * down e)) (ltb (a * d) (b * c))
         (λ t. lt→ltb (a * d) (b * c) (crossed (m * up e) (down e) (n * up g) (down g) a c b d C D v w (ltb→lt (m * up e * down g) (n * up g * down e) t)))
         (λ t. lt→ltb (m * up e * down g) (n * up g * down e) (crossed a c b d (m * up e) (down e) (n * up g) (down g) (down-pos e) (down-pos g) (sym v) (sym w) (ltb→lt (a * d) (b * c) t)))
+
+-- what equals a value above 0 has it; a 0 equals one of the other sign
+pub value-of-eq : (x y : Float) (a c : ℕ) → 0 < a → 0 < c → HasValue x false a c → eq x y ≡ true → HasValue y false a c
+unfolding eq
+value-of-eq x y a c A C v = plain (λ (x : Float). HasValue x false a c → eq x y ≡ true → HasValue y false a c) (λ m e v. equal m e v y) x (of-value x a c v) v
+  where
+    carried : (x p y q : ℕ) → 0 < p → x * c ≡ a * p → x * q ≡ y * p → y * c ≡ a * q
+    carried x p y q P v h =
+        eq-of-mul-eq-mul-right p P (y * c) (a * q)
+        (mul-right-comm y c p ∙ ap (λ (z : ℕ). z * c) (sym h) ∙ mul-right-comm x q c ∙ ap (λ (z : ℕ). z * q) v ∙ mul-right-comm a p q)
+
+    nothing : (x p q : ℕ) → 0 < p → 0 < q → x * c ≡ a * p → x * q ≡ 0 → ⊥
+    nothing x p q P Q v h = lt-irrefl 0 (subst (λ (z : ℕ). 0 < z) (sym v ∙ ap (λ (z : ℕ). z * c) (factor-zero x q Q h) ∙ zero-mul c) (mul-pos A P))
+
+    equal : (m : ℕ) (e : ℤ) → HasValue (fin false m e) false a c → (y : Float) → eq (fin false m e) y ≡ true → HasValue y false a c
+    equal m e v nan h = absurd (true≢false (sym h))
+    equal m e v (inf t) h = absurd (true≢false (sym h))
+    equal m e v (fin true n d) h =
+        let A = m * up e * down d in
+        absurd (nothing (m * up e) (down e) (down d) (down-pos e) (down-pos d) (v .1) (eqb→eq A 0 (and-r (eqb A (n * up d * down e)) (eqb A 0) (subst T (sym h) tt))))
+    equal m e v (fin false n d) h =
+        let A = m * up e * down d in
+        (refl, carried (m * up e) (down e) (n * up d) (down d) (down-pos e) (v .1) (eqb→eq A (n * up d * down e) (and-l (eqb A (n * up d * down e)) true (subst T (sym h) tt))))

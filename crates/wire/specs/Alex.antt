@@ -1,0 +1,55 @@
+-- The Alex filter words: three ladders of six rungs each, and the words of each scheme. Definitions only.
+use Prim.Native.Nat.{ℕ}
+use mathlib.Core.List.{List, [], _∷_, map}
+use lib.ListN.{getD}
+use lib.Bits.{bitOr}
+use lib.IntN.{pos}
+use lib.Ieee.{Float, binary64, ofInt, lt}
+use Rattle.wire.specs.Search.{first}
+use Rattle.wire.specs.declared.board.FilterScheme.{FilterScheme}
+use Rattle.wire.specs.declared.board.FilterScheme.the-variants.{None, Classic, BandPassDual, BandPass, Bypass}
+use Rattle.wire.specs.declared.alex.AlexWords.{AlexWords}
+
+-- limits in Hz as doubles
+abbrev pub limits : List ℕ → List Float
+limits ns = map (λ (n : ℕ). ofInt binary64 (pos n)) ns
+
+-- the bits of the first rung whose limit f is below, and the last where f is below none; so NaN is past the last
+abbrev pub below : List ℕ → List ℕ → Float → ℕ
+below ns bits f = getD bits (first (λ l. lt f l) (limits ns)) 0
+
+-- the same where f is above the limit
+abbrev pub above : List ℕ → List ℕ → Float → ℕ
+above ns bits f = getD bits (first (λ l. lt l f) (limits ns)) 0
+
+abbrev pub bypass : ℕ
+bypass = 0x1000
+
+abbrev pub lowPassBypass : ℕ
+lowPassBypass = 0x20000000
+
+unfoldable pub hpfOf : Float → ℕ
+hpfOf f =
+    below (1800000 ∷ 6500000 ∷ 9500000 ∷ 13000000 ∷ 20000000 ∷ 50000000 ∷ [])
+    (bypass ∷ 0x40 ∷ 0x20 ∷ 0x10 ∷ 0x02 ∷ 0x04 ∷ 0x08 ∷ []) f
+
+unfoldable pub lpfOf : Float → ℕ
+lpfOf f =
+    above (35600000 ∷ 24000000 ∷ 16500000 ∷ 8000000 ∷ 5000000 ∷ 2500000 ∷ [])
+    (lowPassBypass ∷ 0x40000000 ∷ 0x80000000 ∷ 0x00100000 ∷ 0x00200000 ∷ 0x00400000 ∷ 0x00800000 ∷ []) f
+
+unfoldable pub bpfOf : Float → ℕ
+bpfOf f =
+    below (1500000 ∷ 2100000 ∷ 5500000 ∷ 11000000 ∷ 22000000 ∷ 35000000 ∷ [])
+    (bypass ∷ 0x40 ∷ 0x20 ∷ 0x10 ∷ 0x02 ∷ 0x04 ∷ 0x08 ∷ []) f
+
+abbrev pub words : ℕ → ℕ → AlexWords
+words a0 a1 = record { alex0 = a0; alex1 = a1 }
+
+-- alex0, then alex1, of each scheme
+unfoldable pub alexWords : FilterScheme → Float → AlexWords
+alexWords None f = words 0 0
+alexWords Classic f = words (bitOr (hpfOf f) (lpfOf f)) (lpfOf f)
+alexWords BandPassDual f = words (bitOr (bpfOf f) (lpfOf f)) (bitOr bypass (lpfOf f))
+alexWords BandPass f = words (bitOr (bpfOf f) (lpfOf f)) (lpfOf f)
+alexWords Bypass f = words 0x20001000 lowPassBypass
