@@ -11,3 +11,4 @@ pub mod Samples
 pub mod Turns
 pub mod Headers
 pub mod Meanings
+pub mod Edges

@@ -17,12 +17,8 @@ use Rattle.octets.proofs.Picks.{pick-t, pick-f}
 use Rattle.double.proofs.Values.{mul-whole, value-of-eq}
 use Rattle.wire.specs.Answer.{gives, refused}
 use Rattle.wire.specs.Search.{first}
-use Rattle.wire.specs.Rate.{rates, rateAt, isRate, khzOf, rateTold}
+use Rattle.wire.specs.Rate.{rates, isKhz, rateAt, isRate, khzOf, rateTold}
 use Rattle.wire.proofs.Searches.{first-holds, every-at}
-
--- whether x is this many kHz
-abbrev pub isKhz : Float → ℕ → Bool
-isKhz x khz = eq (ofInt binary64 (pos (khz * 1000))) x
 
 -- ---- the entries: above 0, and none above 384
 listed : ℕ → Bool

@@ -1,5 +1,6 @@
 -- The Alex filter words: three ladders of six rungs each, and the words of each scheme. Definitions only.
 use Prim.Native.Nat.{ℕ}
+use mathlib.Core.Bool.{Bool, true, false}
 use mathlib.Core.List.{List, [], _∷_, map}
 use lib.ListN.{getD}
 use lib.Bits.{bitOr}
@@ -10,17 +11,25 @@ use Rattle.wire.specs.declared.board.FilterScheme.{FilterScheme}
 use Rattle.wire.specs.declared.board.FilterScheme.the-variants.{None, Classic, BandPassDual, BandPass, Bypass}
 use Rattle.wire.specs.declared.alex.AlexWords.{AlexWords}
 
+-- a ladder's limits rise or fall
+abbrev pub rising : Bool
+rising = false
+
+abbrev pub falling : Bool
+falling = true
+
+-- whether f stands on the rung of the limit l: below it where they rise, above it where they fall
+unfoldable pub onRung : Bool → Float → Float → Bool
+onRung false f l = lt f l
+onRung true f l = lt l f
+
 -- limits in Hz as doubles
 abbrev pub limits : List ℕ → List Float
 limits ns = map (λ (n : ℕ). ofInt binary64 (pos n)) ns
 
--- the bits of the first rung whose limit f is below, and the last where f is below none; so NaN is past the last
-abbrev pub below : List ℕ → List ℕ → Float → ℕ
-below ns bits f = getD bits (first (λ l. lt f l) (limits ns)) 0
-
--- the same where f is above the limit
-abbrev pub above : List ℕ → List ℕ → Float → ℕ
-above ns bits f = getD bits (first (λ l. lt l f) (limits ns)) 0
+-- the bits of the first rung that f stands on, and those past the last where there is none
+abbrev pub ladder : Bool → List ℕ → List ℕ → Float → ℕ
+ladder way ns bits f = getD bits (first (onRung way f) (limits ns)) 0
 
 abbrev pub bypass : ℕ
 bypass = 0x1000
@@ -30,17 +39,17 @@ lowPassBypass = 0x20000000
 
 unfoldable pub hpfOf : Float → ℕ
 hpfOf f =
-    below (1800000 ∷ 6500000 ∷ 9500000 ∷ 13000000 ∷ 20000000 ∷ 50000000 ∷ [])
+    ladder rising (1800000 ∷ 6500000 ∷ 9500000 ∷ 13000000 ∷ 20000000 ∷ 50000000 ∷ [])
     (bypass ∷ 0x40 ∷ 0x20 ∷ 0x10 ∷ 0x02 ∷ 0x04 ∷ 0x08 ∷ []) f
 
 unfoldable pub lpfOf : Float → ℕ
 lpfOf f =
-    above (35600000 ∷ 24000000 ∷ 16500000 ∷ 8000000 ∷ 5000000 ∷ 2500000 ∷ [])
+    ladder falling (35600000 ∷ 24000000 ∷ 16500000 ∷ 8000000 ∷ 5000000 ∷ 2500000 ∷ [])
     (lowPassBypass ∷ 0x40000000 ∷ 0x80000000 ∷ 0x00100000 ∷ 0x00200000 ∷ 0x00400000 ∷ 0x00800000 ∷ []) f
 
 unfoldable pub bpfOf : Float → ℕ
 bpfOf f =
-    below (1500000 ∷ 2100000 ∷ 5500000 ∷ 11000000 ∷ 22000000 ∷ 35000000 ∷ [])
+    ladder rising (1500000 ∷ 2100000 ∷ 5500000 ∷ 11000000 ∷ 22000000 ∷ 35000000 ∷ [])
     (bypass ∷ 0x40 ∷ 0x20 ∷ 0x10 ∷ 0x02 ∷ 0x04 ∷ 0x08 ∷ []) f
 
 abbrev pub words : ℕ → ℕ → AlexWords

@@ -16,9 +16,13 @@ use Rattle.wire.specs.declared.rate.RateAnswer.the-variants.{Khz, NotEnc
 abbrev pub rates : List ℕ
 rates = 48 ∷ 96 ∷ 192 ∷ 384 ∷ []
 
--- which of them a rate in Hz is
+-- whether a rate in Hz is so many kHz
+abbrev pub isKhz : Float → ℕ → Bool
+isKhz x khz = eq (ofInt binary64 (pos (khz * 1000))) x
+
+-- which of them a rate is
 unfoldable pub rateAt : Float → ℕ
-rateAt x = first (λ (khz : ℕ). eq (ofInt binary64 (pos (khz * 1000))) x) rates
+rateAt x = first (isKhz x) rates
 
 -- 3 unless: 48000, 96000, 192000 or 384000 Hz
 unfoldable pub isRate : Float → Bool

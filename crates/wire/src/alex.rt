@@ -1,8 +1,7 @@
 // The Alex filter words of a board at a frequency: three ladders of six rungs each.
 ghost use mathlib.Core.Path.{_≡_};
-ghost use lib.Ieee.{lt};
 ghost use Rattle.wire.specs.Search.{first};
-ghost use Rattle.wire.specs.Alex.{hpfOf, lpfOf, bpfOf, alexWords};
+ghost use Rattle.wire.specs.Alex.{onRung, hpfOf, lpfOf, bpfOf, alexWords};
 use super::board::FilterScheme;
 
 // The bit that bypasses the high-pass bank of a Classic board, and the band-pass bank of a band-pass board.
@@ -50,6 +49,10 @@ const BYPASS_ALEX0: u32 = LPF_6M_BYPASS | ALEX_BYPASS;
 
 const BYPASS_ALEX1: u32 = LPF_6M_BYPASS;
 
+// Whether a ladder's limits fall.
+const RISING: bool = false;
+
+const FALLING: bool = true;
 // A ladder is its limits, and the bits of each rung with those past the last.
 const HPF_LIMITS: [f64; 6] = [
     1_800_000.0,
@@ -113,27 +116,23 @@ pub struct AlexWords {
     pub alex1: u32,
 }
 
-// The place of the first limit that f is below, 6 where there is none.
-fn rung_below(limits: [f64; 6], f: f64) -> usize
-    ensures { λ r. ⌜ r ≡ first (λ l. lt f l) limits ⌝ }
+// Whether f stands on the rung of this limit. A NaN stands on none.
+fn on_rung(falling: bool, f: f64, limit: f64) -> bool
+    ensures { λ r. ⌜ r ≡ onRung falling f limit ⌝ }
 {
-    let mut i = 0;
-    while i < 6 {
-        if f < limits[i] {
-            return i;
-        }
-        i += 1;
+    if falling {
+        return f > limit;
     }
-    i
+    f < limit
 }
 
-// The place of the first limit that f is above, 6 where there is none.
-fn rung_above(limits: [f64; 6], f: f64) -> usize
-    ensures { λ r. ⌜ r ≡ first (λ l. lt l f) limits ⌝ }
+// The place of the first rung that f stands on, 6 where there is none.
+fn rung(falling: bool, limits: [f64; 6], f: f64) -> usize
+    ensures { λ r. ⌜ r ≡ first (onRung falling f) limits ⌝ }
 {
     let mut i = 0;
     while i < 6 {
-        if f > limits[i] {
+        if on_rung(falling, f, limits[i]) {
             return i;
         }
         i += 1;
@@ -144,19 +143,19 @@ fn rung_above(limits: [f64; 6], f: f64) -> usize
 fn hpf(f: f64) -> u32
     ensures { λ r. ⌜ r ≡ hpfOf f ⌝ }
 {
-    HPF_BITS[rung_below(HPF_LIMITS, f)]
+    HPF_BITS[rung(RISING, HPF_LIMITS, f)]
 }
 
 fn lpf(f: f64) -> u32
     ensures { λ r. ⌜ r ≡ lpfOf f ⌝ }
 {
-    LPF_BITS[rung_above(LPF_LIMITS, f)]
+    LPF_BITS[rung(FALLING, LPF_LIMITS, f)]
 }
 
 fn bpf(f: f64) -> u32
     ensures { λ r. ⌜ r ≡ bpfOf f ⌝ }
 {
-    BPF_BITS[rung_below(BPF_LIMITS, f)]
+    BPF_BITS[rung(RISING, BPF_LIMITS, f)]
 }
 
 pub fn alex_words(scheme: FilterScheme, f: f64) -> AlexWords

@@ -9,18 +9,18 @@ use Rattle.wire.proofs.Searches.{in-table}
 use Rattle.wire.proofs.alex.lpf.Statement.{statement}
 use Rattle.wire.proofs.alex.lpf.Tie as tie
 
-rung-above-requires : tie.Need-rung-above-requires
-rung-above-requires c κs = search needs
+rung-requires : tie.Need-rung-requires
+rung-requires c κs = search needs
 
 mul-result : tie.Need-mul-result
-mul-result c = let h : c .rung-above .result < 7 = in-table _ _ _ 7 (c .rung-above .ensures) (lit< tt) in omega arith
+mul-result c = let h : c .rung .result < 7 = in-table _ _ _ 7 (c .rung .ensures) (lit< tt) in omega arith
 
 array-read-result : tie.Need-array-read-result
-array-read-result c = in-table _ _ _ 7 (c .rung-above .ensures) (lit< tt)
+array-read-result c = in-table _ _ _ 7 (c .rung .ensures) (lit< tt)
 
 returns : tie.Need-returns
 unfolding lpfOf ofBits ofInt
-returns c = rw (c .rung-above .ensures)
+returns c = rw (c .rung .ensures)
 
 pub lpf-spec : {M : Type 1} → statement M
-lpf-spec = tie.close (tie.spec rung-above-requires mul-result array-read-result returns)
+lpf-spec = tie.close (tie.spec rung-requires mul-result array-read-result returns)

@@ -4,9 +4,9 @@ use Prim.Native.Nat.{_-_, _≤_, _<_}
 use native.Mathlib.Omega.{arith}
 use borrow.Author.Needs.{needs}
 use lib.Ieee.{ofBits}
-use Rattle.wire.specs.Rate.{rates}
+use Rattle.wire.specs.Rate.{rates, isKhz}
 use Rattle.wire.proofs.Searches.{Past, at-start, at-end, found, onward}
-use Rattle.wire.proofs.Rates.{isKhz, tested, told-khz, told-none}
+use Rattle.wire.proofs.Rates.{tested, told-khz, told-none}
 use Rattle.wire.proofs.rate.rate_khz.Statement.{statement}
 use Rattle.wire.proofs.rate.rate_khz.Tie as tie
 
