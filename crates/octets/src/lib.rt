@@ -1,5 +1,5 @@
-// Numbers and runs of zeros in a lent buffer, big-endian but for one reader. A place and its width have been tested by the caller against the
-// buffer's length; a writer leaves every other place as it was.
+// Numbers and runs of zeros in a lent buffer, big-endian but for one reader. A place and its width have been tested by the
+// caller against the buffer's length; a writer leaves every other place as it was.
 ghost use mathlib.Core.Path.{_≡_};
 ghost use Prim.Native.Nat.{_+_, _≤_, _<_};
 ghost use lib.ListN.{length};

@@ -45,8 +45,8 @@ edges =
     edge (number (alexWords Classic (hz 7000000) .alex0)) (number 0x00200020) ∷ edge (number (alexWords Classic (hz 7000000) .alex1)) (number 0x00200000) ∷
     -- low-pass: a limit itself is not above it
     edge (number (lpfOf (hz 8000000))) (number 0x00200000) ∷ edge (number (lpfOf (hz 8000001))) (number 0x00100000) ∷
-    -- the least sample and the greatest: -1 and 8388607 / 8388608
-    edge (sample (sampleOf 0x800000)) (sample (fin true 1 (pos 0))) ∷ edge (sample (sampleOf 0x7fffff)) (sample (fin false 8388607 (negsuc 22))) ∷
+    -- the least sample and the greatest, -1 and 8388607 / 8388608, and 0, which is +0
+    edge (sample (sampleOf 0x800000)) (sample (fin true 1 (pos 0))) ∷ edge (sample (sampleOf 0x7fffff)) (sample (fin false 8388607 (negsuc 22))) ∷ edge (sample (sampleOf 0)) (sample (fin false 0 (pos 0))) ∷
     -- expecting 100, 64 behind and 65; expecting 5, number 0
     edge (seen 100 36) (event Stale) ∷ edge (seen 100 35) (event Restart) ∷ edge (seen 5 0) (event Restart) ∷ []
 

@@ -1,4 +1,5 @@
 -- The laws of `wire`: a file imports only what stands above it here.
+pub mod Answers
 pub mod Searches
 pub mod Boards
 pub mod Rungs
