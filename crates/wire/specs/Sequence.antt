@@ -1,5 +1,5 @@
 -- What a datagram's number means relative to the stream so far: 01's `observe`. Definitions only.
-use Prim.Native.Nat.{ℕ, _+_, _-_, _%_}
+use Prim.Native.Nat.{ℕ, _+_, _-_, _%_, _^_}
 use mathlib.Core.Bool.{Bool}
 use lib.Dec.{leb, ltb, eqb}
 use Rattle.octets.specs.Pick.{pick}
@@ -12,18 +12,19 @@ use Rattle.wire.specs.declared.sequence.Observed.{Observed}
 
 -- the arrival less the expected number, modulo 2^32
 unfoldable pub less : ℕ → ℕ → ℕ
-less seq expected = (seq + 0x1_0000_0000 - expected) % 0x1_0000_0000
+less seq expected = (seq + 2 ^ 32 - expected) % 2 ^ 32
 
--- read as signed: above 0 or 0, and -64 to -1
+-- read as signed: not below 0
 abbrev pub ahead : ℕ → Bool
-ahead d = ltb d 0x8000_0000
+ahead d = ltb d (2 ^ 31)
 
+-- read as signed: -64 to -1
 abbrev pub behind : ℕ → Bool
-behind d = leb 0xffff_ffc0 d
+behind d = leb (2 ^ 32 - 64) d
 
 -- the number after seq, modulo 2^32
 unfoldable pub after : ℕ → ℕ
-after seq = (seq + 1) % 0x1_0000_0000
+after seq = (seq + 1) % 2 ^ 32
 
 -- the rule for number 0, where it is not the expected one
 unfoldable pub zeroRestarts : ℕ → Bool
