@@ -8,7 +8,7 @@ use text::Spelt;
 
 // Numbers from the first on, with how many there are, and how many octets stand in the caller's room.
 pub(crate) struct Given {
-    pub numbers: [u64; 4],
+    pub numbers: [u64; 6],
     pub count: usize,
     pub has_octets: bool,
     pub octets: usize,
@@ -16,7 +16,7 @@ pub(crate) struct Given {
 
 // The numbers up to the first word that is none, and where they end.
 struct Numbers {
-    values: [u64; 4],
+    values: [u64; 6],
     count: usize,
     end: usize,
 }
@@ -25,10 +25,10 @@ fn leading(line: &[u8], from: usize) -> Numbers
     requires { ⌜ from ≤ length (now line) ⌝ }
     ensures { λ r. ⌜ r .end ≤ length (now (line .entry)) ⌝ }
 {
-    let mut values = [0u64; 4];
+    let mut values = [0u64; 6];
     let mut count = 0;
     let mut at = from;
-    while count < 4 {
+    while count < 6 {
         let w = word_at(line, at);
         let start = w.start;
         let end = w.end;

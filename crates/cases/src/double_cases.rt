@@ -20,7 +20,7 @@ pub(crate) const TABLE: [u8; 174] = *b"is_finite 1\n\
     below_half 2";
 
 // The double of a pattern. Every NaN's pattern gives the one NaN that the language has.
-fn double_of(bits: u64) -> f64 {
+pub(crate) fn double_of(bits: u64) -> f64 {
     if bits % 9223372036854775808 > 9218868437227405312 {
         return 0.0 / 0.0;
     }
@@ -35,7 +35,7 @@ fn of_double(x: f64) -> Answer {
     Answer::Double(f64::to_bits(x))
 }
 
-fn of_bool(b: bool) -> Answer {
+pub(crate) fn of_bool(b: bool) -> Answer {
     Answer::Number(if b { 1 } else { 0 })
 }
 
@@ -67,7 +67,7 @@ fn of_number(row: usize, n: u64, rate: f64) -> Answer {
     }
 }
 
-pub(crate) fn answer(row: usize, n: [u64; 4]) -> Answer {
+pub(crate) fn answer(row: usize, n: [u64; 6]) -> Answer {
     if row < 8 {
         return of_one(row, double_of(n[0]));
     }

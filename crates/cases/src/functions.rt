@@ -1,17 +1,21 @@
-// Which functions there are: a group of at most 32 for each crate. A further group is a file with a table and the code that runs
-// a row of it, and a line in each function here.
+// Which functions there are: groups of at most 32, each with functions of one crate. A further group is a file with a table and
+// the code that runs a row of it, and a line in each function here.
 ghost use Prim.Native.Nat.{_<_};
 use super::answer::Answer;
 use super::double_cases;
 use super::octet_cases;
+use super::packet_cases;
 use super::report;
 use super::table::Found;
 use super::table::find;
+use super::wire_cases;
 
 // A function by its row in the table of its group.
 pub(crate) enum Function {
     Octet(usize),
     Double(usize),
+    Wire(usize),
+    Packet(usize),
     Unknown,
 }
 
@@ -23,14 +27,22 @@ pub(crate) fn named(name: &[u8], count: usize, has_octets: bool) -> Function {
     if let Found::Row(row) = find(&double_cases::TABLE, name, count, has_octets) {
         return Function::Double(row);
     }
+    if let Found::Row(row) = find(&wire_cases::TABLE, name, count, has_octets) {
+        return Function::Wire(row);
+    }
+    if let Found::Row(row) = find(&packet_cases::TABLE, name, count, has_octets) {
+        return Function::Packet(row);
+    }
     Function::Unknown
 }
 
 // p is the octets that the case gives.
-pub(crate) fn answer(f: Function, n: [u64; 4], p: &mut [u8]) -> Answer {
+pub(crate) fn answer(f: Function, n: [u64; 6], p: &mut [u8]) -> Answer {
     match f {
         Function::Octet(row) => octet_cases::answer(row, n, p),
         Function::Double(row) => double_cases::answer(row, n),
+        Function::Wire(row) => wire_cases::answer(row, n),
+        Function::Packet(row) => packet_cases::answer(row, n, p),
         Function::Unknown => Answer::Nothing,
     }
 }
@@ -42,6 +54,8 @@ pub(crate) fn place(f: Function) -> usize
     match f {
         Function::Octet(row) => row % 32,
         Function::Double(row) => 32 + row % 32,
+        Function::Wire(row) => 64 + row % 32,
+        Function::Packet(row) => 96 + row % 32,
         Function::Unknown => 255,
     }
 }
@@ -49,4 +63,6 @@ pub(crate) fn place(f: Function) -> usize
 pub(crate) fn print_counts(counts: &[u64; 256]) {
     report::counts(&octet_cases::TABLE, counts, 0);
     report::counts(&double_cases::TABLE, counts, 32);
+    report::counts(&wire_cases::TABLE, counts, 64);
+    report::counts(&packet_cases::TABLE, counts, 96);
 }

@@ -4,9 +4,11 @@ mod case;
 mod double_cases;
 mod functions;
 mod octet_cases;
+mod packet_cases;
 mod report;
 mod run;
 mod table;
+mod wire_cases;
 mod words;
 
 // There is room for many times the cases that there are. What does not fit is told, and nothing is run: a cut input would pass

@@ -66,7 +66,7 @@ fn clear(p: &mut [u8], n: usize) -> Answer {
 }
 
 // p is what the case gives, and is changed in place. No answer where a place or a value is outside what the function asks.
-pub(crate) fn answer(row: usize, n: [u64; 4], p: &mut [u8]) -> Answer {
+pub(crate) fn answer(row: usize, n: [u64; 6], p: &mut [u8]) -> Answer {
     if n[0] >= 65536 {
         return Answer::Nothing;
     }

@@ -50,6 +50,11 @@ pub(crate) fn other(at: u64, a: Answer, p: &[u8]) {
             write(b"0x");
             io::print_hex(STDOUT_FILENO, b, 16);
         }
+        Answer::Refused(k) => {
+            write(b"r:");
+            number(k);
+        }
+        Answer::Absent => write(b"none"),
         Answer::Octets => octets(p),
         Answer::Nothing => write(b"nothing"),
     }

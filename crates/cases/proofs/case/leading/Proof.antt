@@ -1,4 +1,4 @@
--- `cases::case::leading`: at most four numbers are read, and the place stays in the line. Assumes nothing.
+-- `cases::case::leading`: at most six numbers are read, and the place stays in the line. Assumes nothing.
 use borrow.Author.Needs.{needs}
 use Prim.Native.Nat.{_-_, _≤_}
 use lib.ListN.{length}
@@ -6,10 +6,10 @@ use Rattle.cases.proofs.case.leading.Statement.{statement}
 use Rattle.cases.proofs.case.leading.Tie as tie
 
 abbrev Inv-loop : tie.InvT-loop
-Inv-loop line from values₀ count₀ at₀ values count at = (count ≤ 4) × (at ≤ length line)
+Inv-loop line from values₀ count₀ at₀ values count at = (count ≤ 6) × (at ≤ length line)
 
 abbrev μ-loop : tie.MeasureT-loop
-μ-loop line from values₀ count₀ at₀ values count at = 4 - count
+μ-loop line from values₀ count₀ at₀ values count at = 6 - count
 
 loop-holds : tie.Need-loop-holds Inv-loop μ-loop
 loop-holds c = search needs
