@@ -9,4 +9,4 @@ test:
 
 # Works the values that the program `cases` is run on out again.
 vectors:
-	@python3 tools/double_cases.py > crates/cases/stdin
+	@(python3 -B tools/double_cases.py && python3 -B tools/wire_cases.py) > crates/cases/stdin

@@ -1,9 +1,8 @@
 #!/usr/bin/env python3
-"""Prints the cases that the program `cases` runs: python3 tools/double_cases.py > crates/cases/stdin
+"""Prints the cases of doubles and octets that the program `cases` runs; `make vectors` puts them first.
 
-Every expected value is worked out with exact fractions, from document 01 (Numbers in the stream) and from IEEE 754: a
-double is a sign and a fraction, and each operation is done exactly and rounded once, to nearest, ties to even, at 53
-bits, with subnormals and overflow. No float of Python's takes part.
+Every expected value is worked out with exact fractions (tools/ieee.py), from document 01 (Numbers in the stream) and
+from IEEE 754. No float of Python's takes part.
 
 With --check it prints no cases: it compares these operations with Python's floats on random patterns. struct serves that alone.
 """
@@ -13,111 +12,11 @@ import sys
 from fractions import Fraction
 from math import ceil, floor
 
+from ieee import NAN, SPECIAL, TOP, add, around, bits, div, even, less, mul, nearest, negated, of, of_bits, signed
+from lines import line, pattern, put, title, word
+
 MOST = 2**64 - 1
-TOP = 2**63
 RATES = [48000, 96000, 192000, 384000, 768000, 1536000]
-
-
-# Doubles: 'nan', or a sign (0 or 1) and a size, which is a fraction or 'inf'.
-
-NAN = 'nan'
-
-
-def nearest(sign, size):
-    """The double nearest to a fraction that is not negative."""
-    if size == 0:
-        return (sign, Fraction(0))
-    # size lies in [2^e, 2^(e + 1)); below 2^-1022 the last digit stays at 2^-1074
-    e = size.numerator.bit_length() - size.denominator.bit_length()
-    if Fraction(2) ** e > size:
-        e -= 1
-    last = Fraction(2) ** (max(e, -1022) - 52)
-    size = even(size / last) * last
-    return (sign, 'inf' if size >= Fraction(2) ** 1024 else size)
-
-
-def even(q):
-    """The whole number nearest to a fraction, ties to even."""
-    low = floor(q)
-    rest = q - low
-    return low + (1 if rest > Fraction(1, 2) or rest == Fraction(1, 2) and low % 2 == 1 else 0)
-
-
-def of_bits(b):
-    sign, e, t = b >> 63, b >> 52 & 2047, b & 2**52 - 1
-    if e == 2047:
-        return NAN if t else (sign, 'inf')
-    if e == 0:
-        return (sign, Fraction(t, 2**1074))
-    return (sign, (2**52 + t) * Fraction(2) ** (e - 1075))
-
-
-def bits(x):
-    """The pattern of a double; every NaN has the one that a case expects."""
-    if x == NAN:
-        return 0x7ff8000000000000
-    sign, size = x
-    if size == 'inf':
-        return sign << 63 | 2047 << 52
-    units = size * 2**1074
-    assert units.denominator == 1
-    digits, e = units.numerator, 0
-    while digits >= 2**53:
-        digits, e = digits // 2, e + 1
-    # a normal number's exponent is one more, and its first digit, which is not written, adds that one
-    return (sign << 63) + (e << 52) + digits
-
-
-def of(n):
-    """A number as a double: a fraction, or a whole number."""
-    return nearest(1 if n < 0 else 0, abs(Fraction(n)))
-
-
-def signed(x):
-    return -x[1] if x[0] else x[1]
-
-
-def add(x, y):
-    if NAN in (x, y):
-        return NAN
-    if 'inf' in (x[1], y[1]):
-        both = x[1] == y[1] and x[0] != y[0]
-        return NAN if both else x if x[1] == 'inf' else y
-    s = signed(x) + signed(y)
-    if s == 0:
-        return (x[0] & y[0], Fraction(0))
-    return of(s)
-
-
-def negated(x):
-    return x if x == NAN else (1 - x[0], x[1])
-
-
-def mul(x, y):
-    if NAN in (x, y):
-        return NAN
-    sign = x[0] ^ y[0]
-    if 'inf' in (x[1], y[1]):
-        return NAN if 0 in (x[1], y[1]) else (sign, 'inf')
-    return nearest(sign, x[1] * y[1])
-
-
-def div(x, y):
-    if NAN in (x, y):
-        return NAN
-    sign = x[0] ^ y[0]
-    if x[1] == 'inf' or y[1] == 0:
-        return NAN if x[1] == y[1] else (sign, 'inf')
-    return nearest(sign, Fraction(0) if y[1] == 'inf' else x[1] / y[1])
-
-
-def placed(x):
-    """A double that is no NaN as a fraction; an infinity lies past every other."""
-    return signed((x[0], Fraction(2) ** 2000)) if x[1] == 'inf' else signed(x)
-
-
-def less(x, y):
-    return NAN not in (x, y) and placed(x) < placed(y)
 
 
 # What the functions are to give.
@@ -196,20 +95,6 @@ OF_STREAM = {
 
 # Lines.
 
-SEEN = set()
-
-
-def pattern(b):
-    return f'0x{b:016x}'
-
-
-def line(name, args, expected, why=''):
-    text = f'{name} {" ".join(args)} = {expected}'
-    if text not in SEEN:
-        SEEN.add(text)
-        print(text + (f'  # {why}' if why else ''))
-
-
 def of_double(name, b, why=''):
     r = OF_DOUBLE[name](of_bits(b))
     line(name, [pattern(b)], r if isinstance(r, int) else pattern(bits(r)), why)
@@ -225,26 +110,14 @@ def of_seconds(ns, why=''):
     line('seconds', [str(ns)], pattern(bits(seconds(ns))), why)
 
 
-def title(text):
-    print(f'\n# {text}')
-
-
 def head():
     print('''# Cases of doubles and octets: a function, what it is given, and what it is to give. A number is decimal, a double
-# stands by its bits, octets stand after x:. Made by `python3 tools/double_cases.py > crates/cases/stdin`, which works
-# every expected value out with exact fractions, from document 01 and IEEE 754, and runs none of the code tried here.''')
+# stands by its bits, octets stand after x:. Made by tools/double_cases.py (`make vectors`), which works every expected
+# value out with exact fractions, from document 01 and IEEE 754, and runs none of the code tried here.''')
 
 
 # Patterns.
 
-SPECIAL = [
-    (0, 'zero'), (TOP, 'minus zero'),
-    (1, 'smallest subnormal'), (TOP + 1, 'minus that'),
-    (2**52 - 1, 'largest subnormal'), (2**52, 'smallest normal'), (TOP + 2**52, 'minus that'),
-    (0x7fefffffffffffff, 'largest'),
-    (0x7ff0000000000000, 'infinity'), (0xfff0000000000000, 'minus infinity'),
-    (0x7ff8000000000000, 'NaN'), (0x7ff0000000000001, 'NaN'), (0xffffffffffffffff, 'NaN'),
-]
 NEGATIVE = [Fraction(-3, 10), Fraction(-1, 2), Fraction(-3, 2), Fraction(-5, 2), -(2**52) - 1]
 EDGES = [
     (Fraction(1, 2), '0.5'), (1, '1'), (Fraction(3, 2), '1.5'), (Fraction(5, 2), '2.5'),
@@ -253,12 +126,6 @@ EDGES = [
 U32_EDGES = [(2**31, '2^31'), (2**32 - 1, '2^32 - 1'), (2**32 - Fraction(1, 2), '2^32 - 0.5'), (2**32, '2^32')]
 
 EDGES_OF = {'is_finite': EDGES[:1], 'is_whole': EDGES[:7], 'round': EDGES[:7], 'cast_u32': EDGES[:4] + U32_EDGES}
-
-
-def around(value, name):
-    b = bits(of(value))
-    assert signed(of_bits(b)) == value
-    return [(b - 1, f'below {name}'), (b, name), (b + 1, f'above {name}')]
 
 
 def random_double(r, low, high):
@@ -462,14 +329,6 @@ def octets():
     line('clear', ['0', 'x:'], 'x:', 'no octets')
 
 
-def word(p):
-    return 'x:' + ''.join(f'{v:02x}' for v in p)
-
-
-def put(p, at, wide, v):
-    return p[:at] + [v // 256 ** (wide - 1 - i) % 256 for i in range(wide)] + p[at + wide:]
-
-
 def float_of(b):
     return struct.unpack('<d', struct.pack('<Q', b))[0]
 
@@ -523,4 +382,5 @@ def main():
     streams(r)
 
 
-main()
+if __name__ == '__main__':
+    main()

@@ -11,7 +11,7 @@ mod table;
 mod wire_cases;
 mod words;
 
-// There is room for many times the cases that there are. What does not fit is told, and nothing is run: a cut input would pass
+// There is room for more cases than there are. What does not fit is told, and nothing is run: a cut input would pass
 // with the cases that are left.
 fn main() {
     let mut text = [0u8; 262144];

@@ -1,5 +1,4 @@
 // The functions of wire on octets that a case can name. A row is counted from 0, in the order of the table.
-ghost use Prim.Native.Nat.{_≤_, _<_};
 use super::answer::Answer;
 use wire::board::BoardId;
 use wire::board::BoardInfo;
