@@ -65,6 +65,19 @@ def phases(r):
             f = first + 1875 * k
             assert f * 65536 % 1875 == rest
             centre(f, f'{f} Hz, {rest} over 1875')
+    other_order(r)
+
+
+def other_order(r):
+    title('phase_word: doubles just below a frequency whose quotient is whole, where another order of rounding tells')
+    step = div(of(U32), of(CLOCK))
+    found = 0
+    while found < 4:
+        b = bits(of(Fraction(r.randint(1, U32 - 1) * 1875, 65536))) - 1
+        other = floor(mul(of_bits(b), step)[1])
+        if other != phase_word(of_bits(b)):
+            of_phase(b, f'f * (2^32 / 122,880,000) would give {other}')
+            found += 1
 
 
 def rates():
@@ -318,6 +331,7 @@ def headers():
     short += [({'length': 17, 'field': 16, 'pairs': 1}, 'the length wins')]
     lengths = [({'length': n}, f'{n} octets') for n in [1443, 1444, 1445]]
     fields = [({'field': v}, f'bits {v}') for v in [23, 25]] + [({'pairs': v}, f'samples {v}') for v in [237]]
+    fields += [({'pairs': 238 + 256}, 'samples with a wrong high octet')]
     both = [({'field': 24 + 256}, 'bits with a wrong high octet'), ({'pairs': 239}, 'samples 239')]
     both += [({'field': 16, 'pairs': 239}, 'the bits win')]
     for given, why in short + lengths + fields + both:
