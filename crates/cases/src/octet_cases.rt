@@ -2,13 +2,14 @@
 ghost use Prim.Native.Nat.{_<_};
 use super::answer::Answer;
 
-pub(crate) const TABLE: [u8; 74] = *b"get_u16 1o\n\
+pub(crate) const TABLE: [u8; 88] = *b"get_u16 1o\n\
     get_u24 1o\n\
     get_u32 1o\n\
     put_u16 2o\n\
     put_u24 2o\n\
     put_u32 2o\n\
-    clear 1o";
+    clear 1o\n\
+    get_u32_le 1o";
 
 fn get(row: usize, p: &[u8], at: usize) -> Answer
     requires { ⌜ at < 65536 ⌝ }
@@ -26,6 +27,11 @@ fn get(row: usize, p: &[u8], at: usize) -> Answer
     if row == 2 {
         if at + 4 <= p.len() {
             return Answer::Number(octets::get_u32(p, at) as u64);
+        }
+    }
+    if row == 7 {
+        if at + 4 <= p.len() {
+            return Answer::Number(octets::get_u32_le(p, at) as u64);
         }
     }
     Answer::Nothing
@@ -72,7 +78,7 @@ pub(crate) fn answer(row: usize, n: [u64; 6], p: &mut [u8]) -> Answer {
     }
     let at = n[0] as usize;
     let v = n[1];
-    if row < 3 {
+    if row < 3 || row == 7 {
         return get(row, p, at);
     }
     if row == 6 {
