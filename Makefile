@@ -1,7 +1,7 @@
 # rt is taken from the PATH, or else from the toolchain's folder under RATTLE_HOME.
 RT := $(shell command -v rt 2>/dev/null || { [ -n "$$RATTLE_HOME" ] && echo "$$RATTLE_HOME/bin/rt"; })
 
-.PHONY: test vectors
+.PHONY: test vectors oracle bench
 # Proves every crate from nothing, tries every must-fail edit and runs every program.
 test:
 	@[ -n "$(RT)" ] || { echo "make test: no rt on the PATH, and RATTLE_HOME is not set" >&2; exit 1; }
@@ -10,3 +10,7 @@ test:
 # Works the values that the program `cases` is run on out again.
 vectors:
 	@(python3 -B tools/double_cases.py && python3 -B tools/wire_cases.py) > crates/cases/stdin
+
+# Runs the cases of wire through the Rust's own functions, and measures against them. MANTA_SRC names the folder with manta's crates/.
+oracle bench:
+	@$@/run
