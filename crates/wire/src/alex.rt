@@ -44,6 +44,7 @@ const BPF_20_15M: u32 = 0x02;
 const BPF_12_10M: u32 = 0x04;
 
 const BPF_6M: u32 = 0x08;
+
 // The words of a board that is not known.
 const BYPASS_ALEX0: u32 = LPF_6M_BYPASS | ALEX_BYPASS;
 
@@ -53,6 +54,7 @@ const BYPASS_ALEX1: u32 = LPF_6M_BYPASS;
 const RISING: bool = false;
 
 const FALLING: bool = true;
+
 // A ladder is its limits, and the bits of each rung with those past the last.
 const HPF_LIMITS: [f64; 6] = [
     1_800_000.0,

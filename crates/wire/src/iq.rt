@@ -8,10 +8,12 @@ ghost use Rattle.wire.specs.Iq.{sampleOf, samplesOf, iqAnswer, headerTol
 ghost use Rattle.wire.specs.Turn.{turnedOf};
 
 pub const IQ_DATAGRAM_LEN: usize = 1444;
+
 // I/Q pairs in a datagram.
 pub const SAMPLES_PER_DATAGRAM: u16 = 238;
 
 pub const BITS_PER_SAMPLE: u16 = 24;
+
 // 2^23
 pub const P2_IQ_FULL_SCALE: f32 = 8_388_608.0;
 
@@ -22,6 +24,7 @@ const IQ_BITS: usize = 12;
 const IQ_SAMPLES: usize = 14;
 
 const IQ_PAYLOAD: usize = 16;
+
 // f32 in a datagram: I and Q of each pair.
 const IQ_NUMBERS: usize = 476;
 

@@ -17,6 +17,7 @@ pub const RX_SPECIFIC_LEN: usize = 1444;
 pub const TX_SPECIFIC_LEN: usize = 60;
 
 pub const HIGH_PRIORITY_LEN: usize = 1444;
+
 // The step attenuator's range.
 pub const MAX_STEP_ATTENUATION_DB: u8 = 31;
 

@@ -4,6 +4,7 @@ ghost use Rattle.wire.specs.Sequence.{fresh, zeroRestarts, judged, rebas
 
 // A stale (late or repeated) datagram is at most this many behind the expected one.
 const MAX_STALE_BEHIND: u32 = 64;
+
 // So many stale datagrams in a row are a restart.
 const STALE_RUN_RESTART: u32 = 8;
 

@@ -3,6 +3,7 @@ ghost use mathlib.Core.Path.{_≡_};
 ghost use Rattle.wire.specs.Status.{overloadAnswer, overloadTold, overloaded};
 
 pub const STATUS_LEN: usize = 60;
+
 // ADC0's overload bit.
 pub const ADC0_OVERLOAD: u8 = 0x01;
 
@@ -26,5 +27,5 @@ pub fn adc_overload_bits(buf: &[u8]) -> OverloadBits
 pub fn adc0_overload(bits: u8) -> bool
     ensures { λ r. ⌜ r ≡ overloaded bits ⌝ }
 {
-    bits % 2 == ADC0_OVERLOAD
+    bits & ADC0_OVERLOAD != 0
 }
