@@ -63,9 +63,13 @@ by-tests false false false false f d h = cc
 by-tests false false false true true d h = cc
 by-tests false false false true false d h = refl
 
-pub stale-run-small : (d run seq : ℕ) → meant d run seq ≡ Stale → run < 7
+stale-run-small : (d run seq : ℕ) → meant d run seq ≡ Stale → run < 7
 unfolding meant
 stale-run-small d run seq h = omega (arith, leb-false 8 (run + 1) (by-tests (eqb d 0) (zeroRestarts seq) (ahead d) (behind d) (eighth run) d h))
+
+stale-small : (x : Expected) (run seq : ℕ) → judged x run seq ≡ Stale → run < 7
+stale-small Nothing run seq h = let z : _≡_ {A = ℕ} 0 1 = cc in absurd (omega arith)
+stale-small (Next x) run seq h = stale-run-small (less seq x) run seq h
 
 -- ---- the tracker after each event
 
@@ -97,4 +101,16 @@ module _ (t : SeqTracker) (seq : ℕ) where
         ∙ seen Stale (sym s ∙ next)
 
     pub run-small : e ≡ Stale → t .«stale_run» < 7
-    run-small s = stale-run-small (less seq x) (t .«stale_run») seq (sym k ∙ s)
+    run-small s = stale-small (Next x) (t .«stale_run») seq (sym k ∙ s)
+
+-- ---- after any number at all the stale run is at most seven
+
+pub run-at-most : (t : SeqTracker) (seq : ℕ) → observed t seq .tracker .«stale_run» ≤ 7
+unfolding observed
+run-at-most t seq = go (judged (t .expected) (t .«stale_run») seq) (stale-small (t .expected) (t .«stale_run») seq)
+  where
+    go : (e : SeqEvent) → (e ≡ Stale → t .«stale_run» < 7) → moved t seq e .tracker .«stale_run» ≤ 7
+    go InOrder h = omega arith
+    go (Gap d) h = omega arith
+    go Restart h = omega arith
+    go Stale h = omega (arith, h refl)

@@ -38,16 +38,16 @@ module _ (v : ℕ) where
   unfolding magnitude
   magnitude-high h = pick-t (minus v) (16777216 - v) v (minus-high h)
 
-  pub sample-low : v < 8388608 → sampleOf v ≡ round binary32 false v 8388608
+  sample-low : v < 8388608 → sampleOf v ≡ round binary32 false v 8388608
   unfolding sampleOf
   sample-low h = rw (minus-low h, magnitude-low h)
 
-  pub sample-high : 8388608 ≤ v → sampleOf v ≡ round binary32 true (16777216 - v) 8388608
+  sample-high : 8388608 ≤ v → sampleOf v ≡ round binary32 true (16777216 - v) 8388608
   unfolding sampleOf
   sample-high h = rw (minus-high h, magnitude-high h)
 
 -- 24-bit numbers fall below 2 ^ 23 or not
-pub halves : {A : Type 0} (v : ℕ) → (v < 8388608 → A) → (8388608 ≤ v → A) → A
+halves : {A : Type 0} (v : ℕ) → (v < 8388608 → A) → (8388608 ≤ v → A) → A
 halves {A} v l h = go (ltb v 8388608) (ltb→lt v 8388608) (nltb→le v 8388608)
   where
     go : (b : Bool) → (T b → v < 8388608) → (T (not b) → 8388608 ≤ v) → A
@@ -98,7 +98,7 @@ unfolding inFloat
 in-f32 n h = rw (le-leb n 16777216 h) tt
 
 -- n, the number offset by 2 ^ 23, less 2 ^ 23, over 2 ^ 23
-pub offset-low : (v n : ℕ) → v < 8388608 → n ≡ (v + 8388608) % 16777216 → div binary32 (sub binary32 (ofInt binary32 (pos n)) full) full ≡ sampleOf v
+offset-low : (v n : ℕ) → v < 8388608 → n ≡ (v + 8388608) % 16777216 → div binary32 (sub binary32 (ofInt binary32 (pos n)) full) full ≡ sampleOf v
 offset-low v n h e =
     let d : n - 8388608 ≡ v = omega arith in
     ap (λ (x : Float). div binary32 x full)
@@ -106,7 +106,7 @@ offset-low v n h e =
     ∙ over (round binary32 false v 1) false v (round-whole binary32 false v (omega arith))
     ∙ sym (sample-low v h)
 
-pub offset-high : (v n : ℕ) → 8388608 ≤ v → v < 16777216 → n ≡ (v + 8388608) % 16777216
+offset-high : (v n : ℕ) → 8388608 ≤ v → v < 16777216 → n ≡ (v + 8388608) % 16777216
     → div binary32 (sub binary32 (ofInt binary32 (pos n)) full) full ≡ sampleOf v
 offset-high v n h l e =
     let d : 8388608 - n ≡ 16777216 - v = omega arith in

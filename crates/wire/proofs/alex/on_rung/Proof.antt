@@ -1,5 +1,4 @@
 -- `wire::alex::on_rung` meets its contract: the comparison of each way. Assumes nothing.
-use mathlib.Core.Path.{_≡_}
 use Rattle.wire.specs.Alex.{onRung}
 use Rattle.wire.proofs.alex.on_rung.Statement.{statement}
 use Rattle.wire.proofs.alex.on_rung.Tie as tie
