@@ -6,6 +6,7 @@ use Prim.Native.Nat.{ℕ}
 use lib.IntN.{pos, negsuc}
 use lib.Ieee.{Float, fin, binary64, ofInt, mul, div, lt, round}
 use Rattle.octets.specs.Pick.{pick}
+use Rattle.octets.specs.Number.{beAt}
 use Rattle.double.specs.Whole.{natOf}
 use Rattle.wire.specs.Search.{first}
 use Rattle.wire.specs.Alex.{onRung, hpfOf, lpfOf, alexWords}
@@ -33,6 +34,10 @@ edge worked is = record { worked = worked; is = is }
 abbrev hz : ℕ → Float
 hz n = ofInt binary64 (pos n)
 
+-- the sample of three octets
+abbrev triple : ℕ → ℕ → ℕ → Given
+triple a b c = sample (sampleOf (beAt 3 (a ∷ b ∷ c ∷ []) 0))
+
 -- the event where a number is expected and no stale one has come
 abbrev seen : ℕ → ℕ → Given
 seen expected seq = event (observed (record { expected = Next expected; «stale_run» = 0 }) seq .event)
@@ -45,8 +50,8 @@ edges =
     edge (number (alexWords Classic (hz 7000000) .alex0)) (number 0x00200020) ∷ edge (number (alexWords Classic (hz 7000000) .alex1)) (number 0x00200000) ∷
     -- low-pass: a limit itself is not above it
     edge (number (lpfOf (hz 8000000))) (number 0x00200000) ∷ edge (number (lpfOf (hz 8000001))) (number 0x00100000) ∷
-    -- the least sample and the greatest, -1 and 8388607 / 8388608, and 0, which is +0
-    edge (sample (sampleOf 0x800000)) (sample (fin true 1 (pos 0))) ∷ edge (sample (sampleOf 0x7fffff)) (sample (fin false 8388607 (negsuc 22))) ∷ edge (sample (sampleOf 0)) (sample (fin false 0 (pos 0))) ∷
+    -- 80 00 00 is -1, 7F FF FF is 8388607 / 8388608, and 0 is +0
+    edge (triple 0x80 0x00 0x00) (sample (fin true 1 (pos 0))) ∷ edge (triple 0x7f 0xff 0xff) (sample (fin false 8388607 (negsuc 22))) ∷ edge (triple 0x00 0x00 0x00) (sample (fin false 0 (pos 0))) ∷
     -- expecting 100, 64 behind and 65; expecting 5, number 0
     edge (seen 100 36) (event Stale) ∷ edge (seen 100 35) (event Restart) ∷ edge (seen 5 0) (event Restart) ∷ []
 
