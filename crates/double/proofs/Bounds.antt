@@ -16,7 +16,7 @@ use lib.Ieee.Scale.{round-same}
 use lib.Ieee.Positive.{num, den, positive, first-pos}
 use Rattle.double.proofs.Plain.{Plain, plain-two, of-positive}
 use Rattle.double.proofs.Signs.{minus?, round-sign}
-use Rattle.double.proofs.Values.{of-values}
+use Rattle.double.proofs.Values.{div-at}
 
 -- b is a double
 abbrev pub Exact : ℕ → Type 0
@@ -89,27 +89,7 @@ mul-up-to x y b c B p q = plain-two (λ (x y : Float). UpTo x b → UpTo y c →
         round-up-to (m * up e * (n * up d)) (down e * down d) (b * c) (mul-pos (down-pos e) (down-pos d)) B
         (le-trans (mul-le-mul (p .1) (q .1)) (le-of-eq (mul-mul-mul-comm b (down e) c (down d))))
 
--- a quotient by what is above 0
-pub div-at : (m : ℕ) (e : ℤ) (n : ℕ) (d : ℤ) → 0 < n → div binary64 (fin false m e) (fin false n d) ≡ round binary64 false (m * up e * down d) (n * up d * down e)
-unfolding div
-div-at m e n d N = ap (λ (t : Bool). cond t (cond (eqb m 0) nan (inf false)) (round binary64 false (m * up e * down d) (n * up d * down e))) (ne-eqb n 0 (λ z. absurd (omega arith)))
-
--- by any fractions that the two equal
-pub div-of-values : (x y : Float) (a c b d : ℕ) → 0 < c → 0 < b → HasValue x false a c → HasValue y false b d → div binary64 x y ≡ round binary64 false (a * d) (b * c)
-div-of-values x y a c b d C B v w = of-values (div binary64) (round binary64 false (a * d) (b * c)) a c b d divided x y v w
-  where
-    crossed : (x p y q : ℕ) → x * c ≡ a * p → y * d ≡ b * q → x * q * (b * c) ≡ a * d * (y * p)
-    crossed x p y q v w =
-        ap (λ (z : ℕ). x * q * z) (mul-comm b c) ∙ mul-mul-mul-comm x q c b ∙ ap (λ (z : ℕ). z * (q * b)) v ∙ ap (λ (z : ℕ). a * p * z) (mul-comm q b ∙ sym w ∙ mul-comm y d)
-        ∙ mul-mul-mul-comm a p d y ∙ ap (λ (z : ℕ). a * d * z) (mul-comm p y)
-
-    divided : (m : ℕ) (e : ℤ) (n : ℕ) (g : ℤ) → m * up e * c ≡ a * down e → n * up g * d ≡ b * down g → div binary64 (fin false m e) (fin false n g) ≡ round binary64 false (a * d) (b * c)
-    divided m e n g v w =
-        let N : 0 < n = first-pos n (up g) (first-pos (n * up g) d (subst (λ (z : ℕ). 0 < z) (sym w) (mul-pos B (down-pos g)))) in
-        div-at m e n g N
-        ∙ round-same binary64 false (m * up e * down g) (n * up g * down e) (a * d) (b * c) (mul-pos (mul-pos N (up-pos g)) (down-pos e)) (mul-pos B C) (crossed (m * up e) (down e) (n * up g) (down g) v w)
-
--- x at most b times y
+-- a quotient by what is above 0: x at most b times y
 pub div-up-to : (x y : Float) (b c : ℕ) → T (positive y) → Exact b → UpTo x c → c * den y ≤ b * num y → UpTo (div binary64 x y) b
 div-up-to x y b c p B u h =
     plain-two (λ (x y : Float). T (positive y) → UpTo x c → c * den y ≤ b * num y → UpTo (div binary64 x y) b) bounded x y (plain-up-to x c u) (of-positive y p) p u h
@@ -117,7 +97,7 @@ div-up-to x y b c p B u h =
     bounded : (m : ℕ) (e : ℤ) (n : ℕ) (d : ℤ) → T (positive (fin false n d)) → UpTo (fin false m e) c → c * down d ≤ b * (n * up d) → UpTo (div binary64 (fin false m e) (fin false n d)) b
     bounded m e n d p u h =
         let N : 0 < n = ltb→lt 0 n p in
-        subst (λ (y : Float). UpTo y b) (sym (div-at m e n d N))
+        subst (λ (y : Float). UpTo y b) (sym (div-at binary64 false m e n d N))
         (round-up-to (m * up e * down d) (n * up d * down e) b (mul-pos (mul-pos N (up-pos d)) (down-pos e)) B
         (le-trans (mul-le-mul-right (down d) (u .1)) (le-trans (le-of-eq (mul-right-comm c (down e) (down d))) (le-trans (mul-le-mul-right (down e) h) (le-of-eq (mul-assoc b (n * up d) (down e)))))))
 

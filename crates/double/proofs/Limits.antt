@@ -15,13 +15,13 @@ use lib.Ieee.Positive.{num, den, den-pos, positive}
 use Rattle.double.specs.Whole.{most, floorAt, floorOf, ceilAt, ceilOf, roundAt, rounded}
 use Rattle.double.specs.Seconds.{secondsOf, giga, nanosAt, nanosOf}
 use Rattle.double.specs.Stream.{perDatagram, slack, two, plausible, jumpLimit, restartMissing, accountTime, coveredTime, belowHalf}
-use Rattle.double.proofs.Bounds.{Exact, UpTo, exact-small, of-nat-up-to, add-up-to, mul-up-to, div-up-to, up-to-more, div-of-values, at-most, plain-up-to}
+use Rattle.double.proofs.Bounds.{Exact, UpTo, exact-small, of-nat-up-to, add-up-to, mul-up-to, div-up-to, up-to-more, at-most, plain-up-to}
 use Rattle.double.proofs.Plain.{plain}
 use Rattle.double.proofs.Floors.{exact-fraction}
 use Rattle.double.proofs.Wholes.{nat-plain}
 use Rattle.double.proofs.Fractions.{ceil-le, round-le}
 use Rattle.double.proofs.Signs.{round-sign}
-use Rattle.double.proofs.Values.{floor-of-whole, nat-minus, sub-ge, sub-lt, lt-of-values}
+use Rattle.double.proofs.Values.{floor-of-whole, nat-minus, sub-ge, sub-lt, div-of-values, lt-of-values}
 
 -- ---- seconds
 pub fraction-up-to : (ns : ℕ) → UpTo (div binary64 (ofInt binary64 (pos (ns % 1000000000))) giga) 1
@@ -111,7 +111,7 @@ half-plain n r rate N R v =
     halved : (x : Float) → HasValue x false r 1 → HasValue (div binary64 x two) false r 2
     halved x v =
         subst (λ (y : Float). HasValue y false r 2)
-        (sym (div-of-values x two r 1 2 1 (zero-lt-suc 0) (zero-lt-suc 1) v (refl, refl) ∙ ap (λ (z : ℕ). round binary64 false z 2) (mul-one r)))
+        (sym (div-of-values binary64 false x two r 1 2 1 (zero-lt-suc 0) (zero-lt-suc 1) v (refl, refl) ∙ ap (λ (z : ℕ). round binary64 false z 2) (mul-one r)))
         (exact-fraction binary64 false r 1 R (lit≤ tt))
 
 -- ---- a time that comes off an elapsed time: the cap makes no difference there

@@ -20,10 +20,10 @@ use Rattle.double.specs.Stream.{perDatagram, slack, plausible, jumpLimit
 use Rattle.double.proofs.Fractions.{Rising, ceil-rising, round-rising, nanos-rising}
 use Rattle.double.proofs.Wholes.{ceil-zero}
 use Rattle.double.proofs.Nanos.{nanos-zero}
-use Rattle.double.proofs.Bounds.{UpTo, le-cross, div-of-values, at-most, plain-up-to}
+use Rattle.double.proofs.Bounds.{UpTo, le-cross, at-most, plain-up-to}
 use Rattle.double.proofs.Zeros.{factor-zero}
 use Rattle.double.proofs.Plain.{Plain, plain-two, of-value, own-fraction}
-use Rattle.double.proofs.Values.{mul-of-values}
+use Rattle.double.proofs.Values.{mul-of-values, div-of-values}
 use Rattle.double.proofs.Limits.{fraction-up-to, count-up-to, datagrams-up-to, seconds-up-to, rate-up-to, product-up-to, samples-up-to, restart-plain}
 use Rattle.double.specs.Seconds.{secondsOf, giga, nanosAt, nanosOf}
 
@@ -66,7 +66,7 @@ num-pos : (x : Float) → T (positive x) → 0 < num x
 num-pos x p = value-pos x (num x) (den x) p (den-pos x) (own-value x p)
 
 div-is : (x y : Float) → Plain x → T (positive y) → div binary64 x y ≡ round binary64 false (num x * den y) (num y * den x)
-div-is x y p q = div-of-values x y (num x) (den x) (num y) (den y) (den-pos x) (num-pos y q) (own-fraction x p) (own-value y q)
+div-is x y p q = div-of-values binary64 false x y (num x) (den x) (num y) (den y) (den-pos x) (num-pos y q) (own-fraction x p) (own-value y q)
 
 module _ (x y z : Float) (p : Plain x) (q : Plain y) (h : T (le x y)) where
   pub mul-rising : Plain z → T (le (mul binary64 x z) (mul binary64 y z))

@@ -1,20 +1,22 @@
--- Doubles that have a whole or a fractional value exactly: their floor, their difference, their product and how they compare. Assumes nothing.
+-- Doubles that have a whole or a fractional value exactly: their floor, difference, product and quotient, and how they compare. Assumes nothing.
 use mathlib.Core.Path.{_≡_, refl, sym, ap, _∙_, subst}
 use Prim.Native.Nat.{ℕ, _-_, _*_, _/_, _^_, _≤_, _<_, min}
 use native.Mathlib.Nat.{mul-one, mul-comm, mul-assoc, mul-right-comm, mul-pos, mul-sub, mul-mul-mul-comm, zero-lt-suc, not-le-of-lt, mul-le-mul-right, mul-lt-mul-of-pos-right, lt-of-mul-lt-mul-right, lt-of-le-of-lt, lt-of-lt-of-le, le-of-eq, div-one, zero-mul, lt-irrefl, eq-of-mul-eq-mul-right}
 use native.Mathlib.Omega.{arith}
+use borrow.Author.Tests.{ne-eqb}
 use mathlib.Core.Bool.{Bool, true, false, not, cond, true≢false}
 use lib.IntN.{ℤ, pos}
 use lib.Dec.{T, ltb, eqb, eqb→eq, ltb→lt, nltb→le, lt→ltb}
-use lib.Ieee.{Float, nan, inf, fin, Format, prec, up, down, round, sum, sub, mul, lt, eq, ofInt}
-use lib.Ieee.Fits.{down-pos, and-l, and-r}
+use lib.Ieee.{Float, nan, inf, fin, Format, prec, up, down, round, sum, sub, mul, div, lt, eq, ofInt, unlike}
+use lib.Ieee.Fits.{up-pos, down-pos, and-l, and-r}
 use lib.Ieee.Exact.{HasValue}
 use lib.Ieee.Back.{round-whole}
 use lib.Ieee.Scale.{round-same}
+use lib.Ieee.Positive.{first-pos}
 use Rattle.double.specs.Whole.{most, natOf, floorOf}
 use Rattle.double.proofs.Orders.{bool-ext}
 use Rattle.double.proofs.Zeros.{factor-zero}
-use Rattle.double.proofs.Plain.{plain, plain-two, of-value}
+use Rattle.double.proofs.Plain.{plain, of-value}
 use Rattle.double.proofs.Signs.{minus?}
 use Rattle.double.proofs.Floors.{cut-of-value, cast-is-floor}
 
@@ -85,22 +87,26 @@ module _ (f : Format) (m : ℕ) (e : ℤ) (n : ℕ) (d : ℤ) (i k : ℕ) (v : m
       ∙ round-same f true (k * (down e * down d) - i * (down e * down d)) (down e * down d) (k - i) 1 both (zero-lt-suc 0) (over k i (down e * down d))
 
 -- what holds of two such numbers holds of two doubles that have their values
-pub of-values : {A : Type 0} (g : Float → Float → A) (r : A) (i c k d : ℕ)
-    → ((m : ℕ) (e : ℤ) (n : ℕ) (p : ℤ) → m * up e * c ≡ i * down e → n * up p * d ≡ k * down p → g (fin false m e) (fin false n p) ≡ r)
-    → (x y : Float) → HasValue x false i c → HasValue y false k d → g x y ≡ r
-of-values g r i c k d f x y v w =
-    plain-two (λ (x y : Float). HasValue x false i c → HasValue y false k d → g x y ≡ r) (λ m e n p v w. f m e n p (v .1) (w .1)) x y (of-value x i c v) (of-value y k d w) v w
+of-values : {A : Type 0} (g : Float → Float → A) (r : A) (s : Bool) (i c k d : ℕ)
+    → ((m : ℕ) (e : ℤ) (n : ℕ) (p : ℤ) → m * up e * c ≡ i * down e → n * up p * d ≡ k * down p → g (fin s m e) (fin false n p) ≡ r)
+    → (x y : Float) → HasValue x s i c → HasValue y false k d → g x y ≡ r
+of-values g r s i c k d f nan y v w = absurd v
+of-values g r s i c k d f (inf t) y v w = absurd v
+of-values g r s i c k d f (fin t m e) nan v w = absurd w
+of-values g r s i c k d f (fin t m e) (inf u) v w = absurd w
+of-values g r s i c k d f (fin t m e) (fin u n p) v w =
+    ap (λ (b : Bool). g (fin b m e) (fin u n p)) (v .0) ∙ ap (λ (b : Bool). g (fin s m e) (fin b n p)) (w .0) ∙ f m e n p (v .1) (w .1)
 
 pub sub-ge : (f : Format) (x y : Float) (i k : ℕ) → HasValue x false i 1 → HasValue y false k 1 → k ≤ i → sub f x y ≡ round f false (i - k) 1
-sub-ge f x y i k v w h = of-values (sub f) (round f false (i - k) 1) i 1 k 1 (λ m e n d p q. fin-ge f m e n d i k p q h) x y v w
+sub-ge f x y i k v w h = of-values (sub f) (round f false (i - k) 1) false i 1 k 1 (λ m e n d p q. fin-ge f m e n d i k p q h) x y v w
 
 pub sub-lt : (f : Format) (x y : Float) (i k : ℕ) → HasValue x false i 1 → HasValue y false k 1 → i < k → sub f x y ≡ round f true (k - i) 1
-sub-lt f x y i k v w h = of-values (sub f) (round f true (k - i) 1) i 1 k 1 (λ m e n d p q. fin-lt f m e n d i k p q h) x y v w
+sub-lt f x y i k v w h = of-values (sub f) (round f true (k - i) 1) false i 1 k 1 (λ m e n d p q. fin-lt f m e n d i k p q h) x y v w
 
 -- ---- a product, 0 included
 pub mul-of-values : (f : Format) (x y : Float) (a c b d : ℕ) → 0 < c → 0 < d → HasValue x false a c → HasValue y false b d → mul f x y ≡ round f false (a * b) (c * d)
 unfolding mul
-mul-of-values f x y a c b d C D v w = of-values (mul f) (round f false (a * b) (c * d)) a c b d multiplied x y v w
+mul-of-values f x y a c b d C D v w = of-values (mul f) (round f false (a * b) (c * d)) false a c b d multiplied x y v w
   where
     multiplied : (m : ℕ) (e : ℤ) (n : ℕ) (g : ℤ) → m * up e * c ≡ a * down e → n * up g * d ≡ b * down g → mul f (fin false m e) (fin false n g) ≡ round f false (a * b) (c * d)
     multiplied m e n g v w =
@@ -111,6 +117,35 @@ mul-of-values f x y a c b d C D v w = of-values (mul f) (round f false (a * b) (
 pub mul-whole : (f : Format) (a b : ℕ) → a ≤ 2 ^ prec f → b ≤ 2 ^ prec f → mul f (ofInt f (pos a)) (ofInt f (pos b)) ≡ ofInt f (pos (a * b))
 unfolding ofInt
 mul-whole f a b A B = mul-of-values f (ofInt f (pos a)) (ofInt f (pos b)) a 1 b 1 (zero-lt-suc 0) (zero-lt-suc 0) (round-whole f false a A) (round-whole f false b B)
+
+-- ---- a quotient by what is above 0
+
+pub div-at : (f : Format) (s : Bool) (m : ℕ) (e : ℤ) (n : ℕ) (d : ℤ) → 0 < n
+    → div f (fin s m e) (fin false n d) ≡ round f s (m * up e * down d) (n * up d * down e)
+unfolding div
+div-at f s m e n d N =
+    ap (λ (t : Bool). cond t (cond (eqb m 0) nan (inf (unlike s false))) (round f (unlike s false) (m * up e * down d) (n * up d * down e))) (ne-eqb n 0 (λ z. absurd (omega arith)))
+    ∙ ap (λ (t : Bool). round f t (m * up e * down d) (n * up d * down e)) (unlike-plus s)
+  where
+    unlike-plus : (s : Bool) → unlike s false ≡ s
+    unlike-plus true = refl
+    unlike-plus false = refl
+
+-- by any fractions that the two equal
+pub div-of-values : (f : Format) (s : Bool) (x y : Float) (a c b d : ℕ) → 0 < c → 0 < b → HasValue x s a c → HasValue y false b d
+    → div f x y ≡ round f s (a * d) (b * c)
+div-of-values f s x y a c b d C B v w = of-values (div f) (round f s (a * d) (b * c)) s a c b d divided x y v w
+  where
+    crossed : (x p y q : ℕ) → x * c ≡ a * p → y * d ≡ b * q → x * q * (b * c) ≡ a * d * (y * p)
+    crossed x p y q v w =
+        ap (λ (z : ℕ). x * q * z) (mul-comm b c) ∙ mul-mul-mul-comm x q c b ∙ ap (λ (z : ℕ). z * (q * b)) v ∙ ap (λ (z : ℕ). a * p * z) (mul-comm q b ∙ sym w ∙ mul-comm y d)
+        ∙ mul-mul-mul-comm a p d y ∙ ap (λ (z : ℕ). a * d * z) (mul-comm p y)
+
+    divided : (m : ℕ) (e : ℤ) (n : ℕ) (g : ℤ) → m * up e * c ≡ a * down e → n * up g * d ≡ b * down g → div f (fin s m e) (fin false n g) ≡ round f s (a * d) (b * c)
+    divided m e n g v w =
+        let N : 0 < n = first-pos n (up g) (first-pos (n * up g) d (subst (λ (z : ℕ). 0 < z) (sym w) (mul-pos B (down-pos g)))) in
+        div-at f s m e n g N
+        ∙ round-same f s (m * up e * down g) (n * up g * down e) (a * d) (b * c) (mul-pos (mul-pos N (up-pos g)) (down-pos e)) (mul-pos B C) (crossed (m * up e) (down e) (n * up g) (down g) v w)
 
 -- ---- how they compare: as their fractions do
 crossed : (x p y q a c b d : ℕ) → 0 < c → 0 < d → x * c ≡ a * p → y * d ≡ b * q → x * q < y * p → a * d < b * c
@@ -128,7 +163,7 @@ crossed x p y q a c b d C D v w h =
 
 pub lt-of-values : (x y : Float) (a c b d : ℕ) → 0 < c → 0 < d → HasValue x false a c → HasValue y false b d → lt x y ≡ ltb (a * d) (b * c)
 unfolding lt
-lt-of-values x y a c b d C D v w = of-values lt (ltb (a * d) (b * c)) a c b d compared x y v w
+lt-of-values x y a c b d C D v w = of-values lt (ltb (a * d) (b * c)) false a c b d compared x y v w
   where
     compared : (m : ℕ) (e : ℤ) (n : ℕ) (g : ℤ) → m * up e * c ≡ a * down e → n * up g * d ≡ b * down g → ltb (m * up e * down g) (n * up g * down e) ≡ ltb (a * d) (b * c)
     compared m e n g v w =

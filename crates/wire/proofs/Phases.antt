@@ -19,8 +19,7 @@ use Rattle.double.proofs.Wholes.{floor-zero}
 use Rattle.double.proofs.Signs.{minus?, round-sign}
 use Rattle.double.proofs.Floors.{cast-narrow, cast-is-floor, floor-round}
 use Rattle.double.proofs.Rounded.{up-value}
-use Rattle.double.proofs.Values.{nat-minus, mul-of-values}
-use Rattle.double.proofs.Bounds.{div-of-values}
+use Rattle.double.proofs.Values.{nat-minus, mul-of-values, div-of-values}
 use Rattle.double.proofs.Monotone.{nat-rising, mul-rising, div-rising}
 use Rattle.wire.specs.Centre.{zero64}
 use Rattle.wire.specs.Phase.{two32, clock, phaseWord}
@@ -46,7 +45,7 @@ module _ (x : Float) (n : ℕ) (v : HasValue x false n 1) (L : n < 61440000) whe
 
   quotient : div binary64 (mul binary64 x two32) clock ≡ round binary64 false (n * 65536) 1875
   quotient =
-      div-of-values (mul binary64 x two32) clock (n * 2 ^ 32) 1 122880000 1 (zero-lt-suc 0) (zero-lt-suc 122879999) product (refl, refl)
+      div-of-values binary64 false (mul binary64 x two32) clock (n * 2 ^ 32) 1 122880000 1 (zero-lt-suc 0) (zero-lt-suc 122879999) product (refl, refl)
       ∙ round-same binary64 false (n * 2 ^ 32 * 1) (122880000 * 1) (n * 65536) 1875 (zero-lt-suc 122879999) (zero-lt-suc 1874) (cross n)
     where
       cross : (n : ℕ) → n * 4294967296 * 1 * 1875 ≡ n * 65536 * (122880000 * 1)

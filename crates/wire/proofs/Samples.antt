@@ -1,20 +1,18 @@
 -- 24-bit samples in f32: nothing is rounded, and the code's cast, difference and quotient give them. Assumes nothing.
 use mathlib.Core.Path.{_≡_, refl, sym, ap, _∙_}
 use Prim.Native.Nat.{ℕ, _+_, _-_, _*_, _%_, _≤_, _<_}
-use native.Mathlib.Nat.{mul-pos, mul-assoc, mul-right-comm, zero-lt-suc}
+use native.Mathlib.Nat.{mul-one, zero-lt-suc}
 use native.Mathlib.Omega.{arith}
 use mathlib.Core.Bool.{Bool, true, false, not}
 use borrow.Author.Tests.{le-leb, lt-leb}
-use lib.IntN.{ℤ, pos}
+use lib.IntN.{pos}
 use lib.Dec.{T, lit≤, ltb, ltb→lt, nltb→le}
-use lib.Ieee.{Float, nan, inf, fin, binary32, round, sub, div, ofInt, inFloat, unlike, up, down}
-use lib.Ieee.Fits.{down-pos}
+use lib.Ieee.{Float, fin, binary32, round, sub, div, ofInt, inFloat}
 use lib.Ieee.Exact.{HasValue}
 use lib.Ieee.Back.{round-whole}
-use lib.Ieee.Scale.{round-same}
 use Rattle.octets.proofs.Picks.{pick-t, pick-f}
 use Rattle.double.proofs.Floors.{exact-fraction}
-use Rattle.double.proofs.Values.{sub-ge, sub-lt}
+use Rattle.double.proofs.Values.{sub-ge, sub-lt, div-of-values}
 use Rattle.wire.specs.Iq.{minus, magnitude, sampleOf}
 
 -- 2 ^ 23
@@ -71,23 +69,10 @@ sample-exact v h =
 -- ---- the code's steps
 
 -- a whole number over 2 ^ 23
-over-fin : (s : Bool) (m : ℕ) (e : ℤ) (n : ℕ) → m * up e * 1 ≡ n * down e → div binary32 (fin s m e) full ≡ round binary32 s n 8388608
-unfolding div
-over-fin s m e n v =
-    ap (λ (t : Bool). round binary32 t (m * up e * 1) (8388608 * down e)) (unlike-plus s)
-    ∙ round-same binary32 s (m * up e * 1) (8388608 * down e) n 8388608 (mul-pos (zero-lt-suc 8388607) (down-pos e)) (zero-lt-suc 8388607) (rw v (cross n (down e)))
-  where
-    unlike-plus : (s : Bool) → unlike s false ≡ s
-    unlike-plus true = refl
-    unlike-plus false = refl
-
-    cross : (n d : ℕ) → n * d * 8388608 ≡ n * (8388608 * d)
-    cross n d = mul-right-comm n d 8388608 ∙ mul-assoc n 8388608 d
-
 over : (x : Float) (s : Bool) (n : ℕ) → HasValue x s n 1 → div binary32 x full ≡ round binary32 s n 8388608
-over nan s n v = absurd v
-over (inf t) s n v = absurd v
-over (fin t m e) s n v = ap (λ (b : Bool). div binary32 (fin b m e) full) (v .0) ∙ over-fin s m e n (v .1)
+over x s n v =
+    div-of-values binary32 s x full n 1 8388608 1 (zero-lt-suc 0) (zero-lt-suc 8388607) v (refl, refl)
+    ∙ ap (λ (k : ℕ). round binary32 s k 8388608) (mul-one n)
 
 whole : (n : ℕ) → n ≤ 16777216 → HasValue (ofInt binary32 (pos n)) false n 1
 unfolding ofInt

@@ -1,9 +1,8 @@
 -- `wire::iq::parse_iq_datagram` meets its contract: the header's rows, then room, then the samples. Assumes nothing.
 use mathlib.Core.Path.{_≡_, ap, sym, _∙_, subst}
 use mathlib.Core.List.{[], _∷_}
-use mathlib.Core.Logic.{⊎-elim}
 use native.Mathlib.Omega.{arith}
-use types.Run.{OneOf}
+use types.Run.{OneOf, miss}
 use denote.Enum.Declared.{tagOf}
 use Rattle.wire.proofs.iq.IqAnswer.{the-type}
 use Rattle.wire.specs.Answer.{gives}
@@ -20,9 +19,6 @@ iq-header-requires c κs = search needs
 enum-known-answer : tie.Need-enum-known-answer
 enum-known-answer c = search needs
 
-none : OneOf (1 ∷ 2 ∷ 3 ∷ 4 ∷ []) 0 → ⊥
-none h = ⊎-elim (λ e. omega arith) (λ i. ⊎-elim (λ e. omega arith) (λ j. ⊎-elim (λ e. omega arith) (λ e. omega arith) j) i) h
-
 -- what the header gave, where it gave a count
 counted : (c : tie.After-known-told) → gives (c .before .answer .given .0 .0 ∷ []) ≡ headerTold (c .before .before .before .before .before .before .args .buf .now)
 counted c = sym (ap iqAnswer (c .before .answer .given .1)) ∙ c .before .before .before .iq-header .ensures
@@ -32,7 +28,7 @@ returns c =
     let a = c .before .before .before .before .args in
     let r = c .before .iq-header .result in
     parsed-bad (a .buf .now) (a .out .now) r
-    (λ seq e. none (subst (λ (x : IqAnswer). OneOf (1 ∷ 2 ∷ 3 ∷ 4 ∷ []) (tagOf the-type x)) e (c .match .keys2)))
+    (λ seq e. miss (1 ∷ 2 ∷ 3 ∷ 4 ∷ []) 0 tt (subst (λ (x : IqAnswer). OneOf (1 ∷ 2 ∷ 3 ∷ 4 ∷ []) (tagOf the-type x)) e (c .match .keys2)))
     (c .before .iq-header .ensures)
 
 returns-2 : tie.Need-returns-2

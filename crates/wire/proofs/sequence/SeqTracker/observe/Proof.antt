@@ -1,9 +1,8 @@
 -- `wire::sequence::SeqTracker::observe` meets its contract: the event, and the tracker after it. Assumes nothing.
 use mathlib.Core.Path.{subst}
 use mathlib.Core.List.{[], _∷_}
-use mathlib.Core.Logic.{⊎-elim}
 use native.Mathlib.Omega.{arith}
-use types.Run.{OneOf}
+use types.Run.{OneOf, miss}
 use denote.Enum.Declared.{tagOf}
 use Rattle.wire.proofs.sequence.SeqEvent.{the-type}
 use Rattle.wire.specs.declared.sequence.SeqEvent.{SeqEvent}
@@ -11,9 +10,6 @@ use Rattle.wire.proofs.Meanings.{seen-first, seen-accepted, seen-stale,
 use borrow.Author.Needs.{needs}
 use Rattle.wire.proofs.sequence.SeqTracker.observe.Statement.{statement}
 use Rattle.wire.proofs.sequence.SeqTracker.observe.Tie as tie
-
-none : OneOf (0 ∷ 1 ∷ 3 ∷ []) 2 → ⊥
-none h = ⊎-elim (λ e. omega arith) (λ i. ⊎-elim (λ e. omega arith) (λ e. omega arith) i) h
 
 enum-known-expected : tie.Need-enum-known-expected
 enum-known-expected c = search needs
@@ -44,7 +40,7 @@ returns-2 c =
     let k = j .before .before in
     let a = k .before .before .args in
     seen-accepted (a .self) (a .seq) (k .expected .given .0 .0) (j .judge .result) (k .expected .given .1) (j .judge .ensures) (c .rebaseline2 .result)
-    (λ e. none (subst (λ (x : SeqEvent). OneOf (0 ∷ 1 ∷ 3 ∷ []) (tagOf the-type x)) e (c .before .match2 .keys2))) (c .rebaseline2 .ensures)
+    (λ e. miss (0 ∷ 1 ∷ 3 ∷ []) 2 tt (subst (λ (x : SeqEvent). OneOf (0 ∷ 1 ∷ 3 ∷ []) (tagOf the-type x)) e (c .before .match2 .keys2))) (c .rebaseline2 .ensures)
 
 add-stale-run : tie.Need-add-stale-run
 add-stale-run c =
