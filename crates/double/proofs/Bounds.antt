@@ -1,10 +1,8 @@
 -- Upper bounds through rounding: what stays at or below a whole number that is a double. Assumes nothing.
 use mathlib.Core.Path.{_≡_, refl, sym, ap, _∙_, subst}
 use Prim.Native.Nat.{ℕ, _+_, _*_, _^_, _≤_, _<_}
-use native.Mathlib.Nat.{le-trans, le-of-eq, le-of-lt, mul-one, mul-comm, mul-assoc, mul-right-comm, mul-pos, add-mul, mul-le-mul, mul-le-mul-right, le-of-mul-le-mul-right, add-le-add, mul-mul-mul-comm, zero-lt-suc}
-use native.Mathlib.Omega.{arith}
-use borrow.Author.Tests.{ne-eqb}
-use mathlib.Core.Bool.{Bool, true, false, cond, true≢false, _||_, _&&_}
+use native.Mathlib.Nat.{le-trans, le-of-eq, le-of-lt, mul-one, mul-assoc, mul-right-comm, mul-pos, add-mul, mul-le-mul, mul-le-mul-right, le-of-mul-le-mul-right, add-le-add, mul-mul-mul-comm, zero-lt-suc}
+use mathlib.Core.Bool.{Bool, true, false, true≢false, _||_, _&&_}
 use lib.IntN.{ℤ, pos}
 use lib.Dec.{T, ltb, eqb, ltb→lt, eqb→eq}
 use lib.Ieee.{Float, nan, inf, fin, binary64, up, down, round, add, mul, div, le, ofInt}
@@ -12,8 +10,7 @@ use lib.Ieee.Fits.{up-pos, down-pos, and-l}
 use lib.Ieee.Exact.{HasValue}
 use lib.Ieee.Back.{round-whole}
 use lib.Ieee.Order.{round-mono}
-use lib.Ieee.Scale.{round-same}
-use lib.Ieee.Positive.{num, den, positive, first-pos}
+use lib.Ieee.Positive.{num, den, positive}
 use Rattle.double.proofs.Plain.{Plain, plain-two, of-positive}
 use Rattle.double.proofs.Signs.{minus?, round-sign}
 use Rattle.double.proofs.Values.{div-at}

@@ -1,12 +1,11 @@
 -- A NaN stands on no rung, so that each of the three ladders has it past the last. Assumes nothing.
-use mathlib.Core.Path.{_≡_, refl, ap, _∙_}
+use mathlib.Core.Path.{_≡_, refl, ap}
 use Prim.Native.Nat.{ℕ}
 use mathlib.Core.Bool.{Bool, true, false}
 use mathlib.Core.List.{List}
-use lib.ListN.{length, getD, length-map}
-use lib.IntN.{pos}
-use lib.Ieee.{Float, nan, inf, fin, binary64, ofInt, lt}
-use Rattle.wire.specs.Alex.{onRung, limits, ladder}
+use lib.ListN.{length, getD}
+use lib.Ieee.{Float, nan, inf, fin, lt}
+use Rattle.wire.specs.Alex.{onRung, ladderOf}
 use Rattle.wire.proofs.Searches.{none-first}
 
 on-none : (way : Bool) (l : Float) → onRung way nan l ≡ false
@@ -16,7 +15,5 @@ on-none true nan = refl
 on-none true (inf s) = refl
 on-none true (fin s m e) = refl
 
-pub nan-past : (way : Bool) (ns bits : List ℕ) → ladder way ns bits nan ≡ getD bits (length ns) 0
-nan-past way ns bits =
-    ap (λ (k : ℕ). getD bits k 0)
-    (none-first (onRung way nan) (on-none way) (limits ns) ∙ length-map ns (λ (n : ℕ). ofInt binary64 (pos n)))
+pub nan-past : (way : Bool) (limits : List Float) (bits : List ℕ) → ladderOf way limits bits nan ≡ getD bits (length limits) 0
+nan-past way limits bits = ap (λ (k : ℕ). getD bits k 0) (none-first (onRung way nan) (on-none way) limits)

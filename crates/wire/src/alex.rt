@@ -1,7 +1,7 @@
 // The Alex filter words of a board at a frequency: three ladders of six rungs each.
 ghost use mathlib.Core.Path.{_≡_};
 ghost use Rattle.wire.specs.Search.{first};
-ghost use Rattle.wire.specs.Alex.{onRung, hpfOf, lpfOf, bpfOf, alexWords};
+ghost use Rattle.wire.specs.Alex.{onRung, ladderOf, hpfOf, lpfOf, bpfOf, alexWords};
 use super::board::FilterScheme;
 
 // The bit that bypasses the high-pass bank of a Classic board, and the band-pass bank of a band-pass board.
@@ -142,22 +142,29 @@ fn rung(falling: bool, limits: [f64; 6], f: f64) -> usize
     i
 }
 
+// The bits of that rung.
+fn ladder(falling: bool, limits: [f64; 6], bits: [u32; 7], f: f64) -> u32
+    ensures { λ r. ⌜ r ≡ ladderOf falling limits bits f ⌝ }
+{
+    bits[rung(falling, limits, f)]
+}
+
 fn hpf(f: f64) -> u32
     ensures { λ r. ⌜ r ≡ hpfOf f ⌝ }
 {
-    HPF_BITS[rung(RISING, HPF_LIMITS, f)]
+    ladder(RISING, HPF_LIMITS, HPF_BITS, f)
 }
 
 fn lpf(f: f64) -> u32
     ensures { λ r. ⌜ r ≡ lpfOf f ⌝ }
 {
-    LPF_BITS[rung(FALLING, LPF_LIMITS, f)]
+    ladder(FALLING, LPF_LIMITS, LPF_BITS, f)
 }
 
 fn bpf(f: f64) -> u32
     ensures { λ r. ⌜ r ≡ bpfOf f ⌝ }
 {
-    BPF_BITS[rung(RISING, BPF_LIMITS, f)]
+    ladder(RISING, BPF_LIMITS, BPF_BITS, f)
 }
 
 pub fn alex_words(scheme: FilterScheme, f: f64) -> AlexWords
