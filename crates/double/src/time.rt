@@ -1,12 +1,22 @@
-// Nanoseconds and a double's seconds, as Rust's `Duration` turns one into the other.
+// Readings, nanoseconds and a double's seconds, as Rust's `Instant` and `Duration` have them.
 ghost use mathlib.Core.Path.{_≡_};
-ghost use Prim.Native.Nat.{_%_, _<_, _≤_, _^_};
+ghost use Prim.Native.Nat.{_-_, _%_, _<_, _≤_, _^_};
 ghost use Rattle.double.specs.Seconds.{secondsOf, nanosOf};
 ghost use Rattle.double.specs.Parts.{toEven, nanosBy};
 use super::parts::MOST;
 use super::parts::apart;
 use super::parts::saturating_add;
 use super::whole::is_finite;
+
+// Rust's `saturating_duration_since`: the nanoseconds from one reading to another, 0 where that lies before it.
+pub fn since(now: u64, then: u64) -> u64
+    ensures { λ r. ⌜ r ≡ now - then ⌝ }
+{
+    if now < then {
+        return 0;
+    }
+    now - then
+}
 
 // Rust's `as_secs_f64`: whole seconds plus nanoseconds / 1e9.
 pub fn seconds(ns: u64) -> f64

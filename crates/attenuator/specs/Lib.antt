@@ -1,0 +1,3 @@
+-- The definitions that the contracts of `attenuator` cite, and the claim about its level.
+pub mod Controller
+pub mod Level

@@ -1,0 +1,3 @@
+-- The laws of `discovery`: a file imports only what stands above it here.
+pub mod Replies
+pub mod Requests

@@ -1,0 +1,3 @@
+-- The definitions that the contracts of `discovery` cite.
+pub mod Request
+pub mod Reply

@@ -1,0 +1,2 @@
+-- The definitions that the contracts of `health` cite.
+pub mod Counters

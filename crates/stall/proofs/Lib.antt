@@ -1,0 +1,2 @@
+-- The laws of `stall`, for the crates above it.
+pub mod Once

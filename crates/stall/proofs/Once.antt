@@ -1,0 +1,14 @@
+-- An outage is told once, and its report handed out once. Assumes nothing.
+use Prim.Native.Nat.{ℕ}
+use mathlib.Core.Bool.{false}
+use mathlib.Core.Path.{_≡_, refl}
+use Rattle.stall.specs.Episode.{isDue, reported, taken}
+use Rattle.stall.specs.declared.StallEpisode.{StallEpisode}
+
+-- no report is due after a report, until a delivery
+pub told-once : (e : StallEpisode) (last now hard : ℕ) → isDue (reported e) last now hard ≡ false
+unfolding isDue
+told-once e last now hard = refl
+
+pub taken-once : (e : StallEpisode) → taken (taken e .episode) .stalled ≡ false
+taken-once e = refl

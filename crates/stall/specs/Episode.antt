@@ -1,0 +1,25 @@
+-- The soft stall of a stream, 01, Pass. Definitions only. A difference of readings is of natural numbers, and so never below 0.
+use Prim.Native.Nat.{ℕ, _-_}
+use mathlib.Core.Bool.{Bool, true, false, _&&_}
+use lib.Dec.{leb, ltb}
+use Rattle.stall.specs.declared.StallEpisode.{StallEpisode}
+use Rattle.stall.specs.declared.Taken.{Taken}
+
+abbrev pub unarmed : ℕ → StallEpisode
+unarmed soft = record { «soft_after» = soft; delivering = false; pending = false }
+
+abbrev pub delivered : StallEpisode → StallEpisode
+delivered e = record { «soft_after» = e .«soft_after»; delivering = true; pending = e .pending }
+
+-- soft: delivering, hard time above soft time, and soft time passed since the last sample
+unfoldable pub isDue : StallEpisode → ℕ → ℕ → ℕ → Bool
+isDue e last now hard = e .delivering && ltb (e .«soft_after») hard && leb (e .«soft_after») (now - last)
+
+-- the stall flag is set, delivering goes off
+abbrev pub reported : StallEpisode → StallEpisode
+reported e = record { «soft_after» = e .«soft_after»; delivering = false; pending = true }
+
+-- a drain returns and empties the stall flag
+abbrev pub taken : StallEpisode → Taken
+taken e =
+    record { stalled = e .pending; episode = record { «soft_after» = e .«soft_after»; delivering = e .delivering; pending = false } }

@@ -1,0 +1,2 @@
+-- The definitions that the contracts of `stall` cite.
+pub mod Episode

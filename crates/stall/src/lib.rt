@@ -1,0 +1,83 @@
+// One outage of a stream that was delivering: told once after the soft deadline, and again only after a further delivery.
+// 01, The session, Pass.
+ghost use mathlib.Core.Path.{_≡_};
+ghost use Rattle.stall.specs.Episode.{unarmed, delivered, isDue, reported, taken};
+use double::time::since;
+
+// The soft deadline that the Rust uses, in nanoseconds; 01 leaves it to the caller.
+pub const SOFT_STALL_AFTER: u64 = 4_500_000_000;
+
+pub struct StallEpisode {
+    // how long after the last sample the report is due, in nanoseconds
+    pub soft_after: u64,
+    // samples came since the last report
+    pub delivering: bool,
+    // a report was made and has not been taken
+    pub pending: bool,
+}
+
+pub struct Taken {
+    pub stalled: bool,
+    pub episode: StallEpisode,
+}
+
+impl StallEpisode {
+    pub fn new(soft_after: u64) -> Self
+        ensures { λ r. ⌜ r ≡ unarmed «soft_after» ⌝ }
+    {
+        Self {
+            soft_after,
+            delivering: false,
+            pending: false,
+        }
+    }
+
+    pub fn note_delivery(self) -> Self
+        ensures { λ r. ⌜ r ≡ delivered self ⌝ }
+    {
+        Self {
+            soft_after: self.soft_after,
+            delivering: true,
+            pending: self.pending,
+        }
+    }
+
+    // Whether the report is due now, the last sample being of the reading `last`. Where the hard deadline is not the longer
+    // one, the outage is left to it.
+    pub fn due(self, last: u64, now: u64, hard: u64) -> bool
+        ensures { λ r. ⌜ r ≡ isDue self last now hard ⌝ }
+    {
+        if !self.delivering {
+            return false;
+        }
+        if hard <= self.soft_after {
+            return false;
+        }
+        since(now, last) >= self.soft_after
+    }
+
+    // Makes the report, and none more before the next delivery.
+    pub fn report(self) -> Self
+        ensures { λ r. ⌜ r ≡ reported self ⌝ }
+    {
+        Self {
+            soft_after: self.soft_after,
+            delivering: false,
+            pending: true,
+        }
+    }
+
+    // The report, handed out once.
+    pub fn take(self) -> Taken
+        ensures { λ r. ⌜ r ≡ taken self ⌝ }
+    {
+        Taken {
+            stalled: self.pending,
+            episode: Self {
+                soft_after: self.soft_after,
+                delivering: self.delivering,
+                pending: false,
+            },
+        }
+    }
+}
