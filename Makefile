@@ -9,8 +9,8 @@ test:
 
 # Works the values that the program `cases` is run on out again.
 vectors:
-	@(python3 -B tools/double_cases.py && python3 -B tools/wire_cases.py) > crates/cases/stdin
+	@(for part in double wire attenuator part; do python3 -B tools/$${part}_cases.py || exit 1; done) > crates/cases/stdin
 
-# Runs the cases of wire through the Rust's own functions, and measures against them. MANTA_SRC names the folder with manta's crates/.
+# Runs the cases through the Rust's own functions, and measures against them. MANTA_SRC names the folder with manta's crates/.
 oracle bench:
 	@$@/run

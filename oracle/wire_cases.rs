@@ -1,36 +1,7 @@
-//! Runs the cases of wire (crates/cases/stdin) through manta's own wire.rs: oracle/wire_cases TEXT.
-//! Says how many lines were run, how many differ, and how many the Rust has no counterpart for.
-#[allow(dead_code)]
-mod wire;
-
+//! Boards, filters, rates, the tracker, packets and datagrams: manta's own wire.rs.
+use crate::ran::{lent, option, Ran, Ran::*};
+use crate::wire::*;
 use num_complex::Complex32;
-use std::collections::BTreeMap;
-use wire::*;
-
-enum Ran {
-    Number(u64),
-    Word(String),
-    /// No counterpart in the Rust, and why.
-    Skipped(&'static str),
-}
-use Ran::*;
-
-fn number(s: &str) -> u64 {
-    match s.strip_prefix("0x") {
-        Some(hex) => u64::from_str_radix(hex, 16).unwrap(),
-        None => s.parse().unwrap(),
-    }
-}
-
-fn octets(s: &str) -> Vec<u8> {
-    let digits = |i: usize| u8::from_str_radix(&s[2 * i..2 * i + 2], 16).unwrap();
-    (0..s.len() / 2).map(digits).collect()
-}
-
-fn word(p: &[u8]) -> Ran {
-    let hex: String = p.iter().map(|b| format!("{b:02x}")).collect();
-    Word(format!("x:{hex}"))
-}
 
 fn scheme(n: u64) -> FilterScheme {
     [
@@ -108,16 +79,6 @@ fn observe(name: &str, a: &[u64]) -> Ran {
     })
 }
 
-/// The Rust returns a packet; a lent buffer then holds it over its front.
-fn lent(packet: &[u8], given: &[u8]) -> Ran {
-    if given.len() < packet.len() {
-        return Skipped("15, a buffer below its packet: the Rust returns the packet");
-    }
-    let mut p = given.to_vec();
-    p[..packet.len()].copy_from_slice(packet);
-    word(&p)
-}
-
 /// The answer and the 476 f32; on refusal the output is as it was.
 fn parsed(p: &[u8]) -> (Result<u32, MalformedIq>, Vec<f32>) {
     let seven = Complex32::new(7.0, 7.0);
@@ -164,12 +125,7 @@ fn room(places: u64, p: &[u8]) -> Ran {
     }
 }
 
-fn option(n: Option<u64>, none: &str) -> Ran {
-    n.map_or(Word(none.into()), Number)
-}
-
-/// None for a function of another crate.
-fn run(name: &str, a: &[u64], p: &[u8]) -> Option<Ran> {
+pub fn run(name: &str, a: &[u64], p: &[u8]) -> Option<Ran> {
     let double = |i: usize| f64::from_bits(a[i]);
     Some(match name {
         "phase_word" => Number(phase_word(double(0)) as u64),
@@ -207,58 +163,4 @@ fn run(name: &str, a: &[u64], p: &[u8]) -> Option<Ran> {
         "iq_room" => room(a[0], p),
         _ => return None,
     })
-}
-
-/// A line's name, numbers, octets and expected word.
-fn split(line: &str) -> (&str, Vec<u64>, Vec<u8>, &str) {
-    let (left, expected) = line.split_once(" = ").unwrap();
-    let mut words = left.split_whitespace();
-    let name = words.next().unwrap();
-    let (mut a, mut p) = (vec![], vec![]);
-    for w in words {
-        match w.strip_prefix("x:") {
-            Some(o) => p = octets(o),
-            None => a.push(number(w)),
-        }
-    }
-    (name, a, p, expected)
-}
-
-fn main() {
-    let path = std::env::args().nth(1).expect("a text of cases");
-    let text = std::fs::read_to_string(path).unwrap();
-    let (mut ran, mut differ) = (0, 0);
-    let mut skipped: BTreeMap<&str, u32> = BTreeMap::new();
-    for (i, line) in text.lines().enumerate() {
-        let line = line.split('#').next().unwrap().trim();
-        if line.is_empty() {
-            continue;
-        }
-        let (name, a, p, expected) = split(line);
-        let came = match run(name, &a, &p) {
-            None => continue,
-            Some(Skipped(why)) => {
-                *skipped.entry(why).or_default() += 1;
-                continue;
-            }
-            Some(Number(n)) => n.to_string(),
-            Some(Word(w)) => w,
-        };
-        ran += 1;
-        // a number may be written in hexadecimal
-        let same =
-            came == expected || expected.starts_with("0x") && came == number(expected).to_string();
-        if !same {
-            differ += 1;
-            println!(
-                "line {}: {name}: expected {expected}, the Rust gives {came}",
-                i + 1
-            );
-        }
-    }
-    for (why, n) in &skipped {
-        println!("{n} not run: {why}");
-    }
-    println!("{ran} cases of wire run by the Rust, {differ} differ");
-    std::process::exit(if differ == 0 { 0 } else { 1 });
 }

@@ -174,6 +174,14 @@ def times(r):
         of_double('nanoseconds', random_double(r, -31, 34))
 
 
+def readings(r):
+    title('since: the reading now, and the one before; 0 where it lies behind')
+    pairs = [(n + k, n) for n in [1, 10**9, 2**32, 2**63, MOST - 1] for k in [-1, 0, 1]]
+    pairs += [(0, 0), (1, 0), (0, 1), (MOST, 0), (0, MOST), (MOST, MOST), (MOST - 1, 0), (0, MOST - 1), (MOST, 2**63)]
+    for now, then in pairs + [(r.getrandbits(64), r.getrandbits(b)) for b in [20, 40, 64, 64, 64, 64]]:
+        line('since', [str(now), str(then)], max(now - then, 0))
+
+
 def seams(r):
     """Doubles of 53 digits at 2^(k - 1074), about the scales at which the code takes another way."""
     for k in [990, 991]:
@@ -382,6 +390,7 @@ def main():
     unary(r)
     times(r)
     streams(r)
+    readings(r)
 
 
 if __name__ == '__main__':

@@ -8,7 +8,7 @@ def pattern(b):
 
 
 def line(name, args, expected, why=''):
-    text = f'{name} {" ".join(args)} = {expected}'
+    text = f'{" ".join([name, *args])} = {expected}'
     if text not in SEEN:
         SEEN.add(text)
         print(text + (f'  # {why}' if why else ''))

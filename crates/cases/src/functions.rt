@@ -1,10 +1,11 @@
-// Which functions there are: groups of at most 32, each with functions of one crate. A further group is a file with a table and
-// the code that runs a row of it, and a line in each function here.
+// Which functions there are: groups of at most 32, each with functions of one crate, or of a session's small parts. A further
+// group is a file with a table and the code that runs a row of it, and a line in each function here.
 ghost use Prim.Native.Nat.{_<_};
 use super::answer::Answer;
 use super::double_cases;
 use super::octet_cases;
 use super::packet_cases;
+use super::part_cases;
 use super::report;
 use super::table::Found;
 use super::table::find;
@@ -16,6 +17,7 @@ pub(crate) enum Function {
     Double(usize),
     Wire(usize),
     Packet(usize),
+    Part(usize),
     Unknown,
 }
 
@@ -33,6 +35,9 @@ pub(crate) fn named(name: &[u8], count: usize, has_octets: bool) -> Function {
     if let Found::Row(row) = find(&packet_cases::TABLE, name, count, has_octets) {
         return Function::Packet(row);
     }
+    if let Found::Row(row) = find(&part_cases::TABLE, name, count, has_octets) {
+        return Function::Part(row);
+    }
     Function::Unknown
 }
 
@@ -43,6 +48,7 @@ pub(crate) fn answer(f: Function, n: [u64; 6], p: &mut [u8]) -> Answer {
         Function::Double(row) => double_cases::answer(row, n),
         Function::Wire(row) => wire_cases::answer(row, n),
         Function::Packet(row) => packet_cases::answer(row, n, p),
+        Function::Part(row) => part_cases::answer(row, n, p),
         Function::Unknown => Answer::Nothing,
     }
 }
@@ -56,6 +62,7 @@ pub(crate) fn place(f: Function) -> usize
         Function::Double(row) => 32 + row % 32,
         Function::Wire(row) => 64 + row % 32,
         Function::Packet(row) => 96 + row % 32,
+        Function::Part(row) => 128 + row % 32,
         Function::Unknown => 255,
     }
 }
@@ -65,4 +72,5 @@ pub(crate) fn print_counts(counts: &[u64; 256]) {
     report::counts(&double_cases::TABLE, counts, 32);
     report::counts(&wire_cases::TABLE, counts, 64);
     report::counts(&packet_cases::TABLE, counts, 96);
+    report::counts(&part_cases::TABLE, counts, 128);
 }

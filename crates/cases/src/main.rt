@@ -1,12 +1,17 @@
 // Runs cases of text, a line each, and tells which of them did not come out as expected.
 mod answer;
+mod attenuator_cases;
 mod case;
+mod discovery_cases;
 mod double_cases;
 mod functions;
+mod health_cases;
 mod octet_cases;
 mod packet_cases;
+mod part_cases;
 mod report;
 mod run;
+mod stall_cases;
 mod table;
 mod wire_cases;
 mod words;

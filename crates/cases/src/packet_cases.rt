@@ -26,7 +26,7 @@ pub(crate) const TABLE: [u8; 171] = *b"general_packet 3o\n\
     iq_sample 1o\n\
     iq_room 1o";
 
-fn of_packet(a: PacketAnswer) -> Answer {
+pub(crate) fn of_packet(a: PacketAnswer) -> Answer {
     match a {
         PacketAnswer::Written => Answer::Octets,
         PacketAnswer::NoRoom => Answer::Refused(15),

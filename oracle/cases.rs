@@ -1,0 +1,134 @@
+//! Runs the cases (crates/cases/stdin) through manta's own functions: oracle/cases TEXT. Says for each of manta's files how
+//! many lines were run and how many differ, and how many lines the Rust has no counterpart for, and why.
+#[allow(dead_code)]
+mod attenuator;
+mod attenuator_cases;
+#[allow(dead_code)]
+mod discovery;
+mod discovery_cases;
+#[allow(dead_code)]
+mod health_cases;
+mod instant_cases;
+mod ran;
+#[allow(dead_code)]
+mod stall;
+mod stall_cases;
+#[allow(dead_code)]
+mod wire;
+mod wire_cases;
+
+use ran::Ran::{self, *};
+use std::collections::BTreeMap;
+
+/// What discovery.rs binds a probe's socket by. No case probes.
+mod local_bind {
+    pub fn bind_udp_for(_: std::net::IpAddr) -> std::io::Result<std::net::UdpSocket> {
+        Err(std::io::ErrorKind::Unsupported.into())
+    }
+}
+
+/// None for a function of another file.
+type Run = fn(&str, &[u64], &[u8]) -> Option<Ran>;
+
+const FILES: [(&str, Run); 6] = [
+    ("wire.rs", wire_cases::run),
+    ("attenuator.rs", attenuator_cases::run),
+    ("stall.rs", stall_cases::run),
+    ("discovery.rs", discovery_cases::run),
+    ("lib.rs's counters", health_cases::run),
+    ("std's Instant", instant_cases::run),
+];
+
+fn number(s: &str) -> u64 {
+    match s.strip_prefix("0x") {
+        Some(hex) => u64::from_str_radix(hex, 16).unwrap(),
+        None => s.parse().unwrap(),
+    }
+}
+
+fn octets(s: &str) -> Vec<u8> {
+    let digits = |i: usize| u8::from_str_radix(&s[2 * i..2 * i + 2], 16).unwrap();
+    (0..s.len() / 2).map(digits).collect()
+}
+
+/// A line's name, numbers, octets and expected word.
+fn split(line: &str) -> (&str, Vec<u64>, Vec<u8>, &str) {
+    let (left, expected) = line.split_once(" = ").unwrap();
+    let mut words = left.split_whitespace();
+    let name = words.next().unwrap();
+    let (mut a, mut p) = (vec![], vec![]);
+    for w in words {
+        match w.strip_prefix("x:") {
+            Some(o) => p = octets(o),
+            None => a.push(number(w)),
+        }
+    }
+    (name, a, p, expected)
+}
+
+/// A number may be written in hexadecimal.
+fn same(came: &str, expected: &str) -> bool {
+    came == expected || expected.starts_with("0x") && came == number(expected).to_string()
+}
+
+#[derive(Default)]
+struct Tally {
+    /// The lines run and those that differ, by file.
+    ran: [(u32, u32); FILES.len()],
+    skipped: BTreeMap<&'static str, u32>,
+}
+
+impl Tally {
+    fn line(&mut self, at: usize, line: &str) {
+        let (name, a, p, expected) = split(line);
+        let run = |(file, f): (usize, &(&str, Run))| Some((file, (f.1)(name, &a, &p)?));
+        let came = match FILES.iter().enumerate().find_map(run) {
+            None => {
+                return self.skip("octets and doubles by themselves: manta has no such functions")
+            }
+            Some((_, Skipped(why))) => return self.skip(why),
+            Some((file, Number(n))) => (file, n.to_string()),
+            Some((file, Word(w))) => (file, w),
+        };
+        let (file, came) = came;
+        self.ran[file].0 += 1;
+        if !same(&came, expected) {
+            self.ran[file].1 += 1;
+            println!("line {at}: {name}: expected {expected}, the Rust gives {came}");
+        }
+    }
+
+    fn skip(&mut self, why: &'static str) {
+        *self.skipped.entry(why).or_default() += 1;
+    }
+
+    /// Whether none differs.
+    fn tell(&self) -> bool {
+        for (why, n) in &self.skipped {
+            println!("{n} not run: {why}");
+        }
+        for ((file, _), (ran, differ)) in FILES.iter().zip(self.ran) {
+            println!("{ran} cases run by {file}, {differ} differ");
+        }
+        let sum = |f: fn(&(u32, u32)) -> u32| self.ran.iter().map(f).sum::<u32>();
+        println!(
+            "{} cases run by the Rust, {} differ",
+            sum(|r| r.0),
+            sum(|r| r.1)
+        );
+        sum(|r| r.1) == 0
+    }
+}
+
+fn main() {
+    let path = std::env::args().nth(1).expect("a text of cases");
+    let text = std::fs::read_to_string(path).unwrap();
+    let mut tally = Tally::default();
+    for (i, line) in text.lines().enumerate() {
+        let line = line.split('#').next().unwrap().trim();
+        if !line.is_empty() {
+            tally.line(i + 1, line);
+        }
+    }
+    std::process::exit(if tally.tell() { 0 } else { 1 });
+}
