@@ -39,6 +39,33 @@ const FILES: [(&str, Run); 6] = [
     ("std's Instant", instant_cases::run),
 ];
 
+/// The functions of octets and double, of which manta has no counterpart. A name that is neither here nor in a file above is
+/// an error, so that no case goes unnoticed.
+const OURS: [&str; 22] = [
+    "get_u16",
+    "get_u24",
+    "get_u32",
+    "get_u32_le",
+    "put_u16",
+    "put_u24",
+    "put_u32",
+    "clear",
+    "is_finite",
+    "is_whole",
+    "floor_u64",
+    "ceil_u64",
+    "round_u64",
+    "cast_u32",
+    "round",
+    "nanoseconds",
+    "seconds",
+    "jump_limit",
+    "restart_missing",
+    "account_time",
+    "covered_time",
+    "below_half",
+];
+
 fn number(s: &str) -> u64 {
     match s.strip_prefix("0x") {
         Some(hex) => u64::from_str_radix(hex, 16).unwrap(),
@@ -83,9 +110,10 @@ impl Tally {
         let (name, a, p, expected) = split(line);
         let run = |(file, f): (usize, &(&str, Run))| Some((file, (f.1)(name, &a, &p)?));
         let came = match FILES.iter().enumerate().find_map(run) {
-            None => {
+            None if OURS.contains(&name) => {
                 return self.skip("octets and doubles by themselves: manta has no such functions")
             }
+            None => panic!("line {at}: {name}: a function that is not known here"),
             Some((_, Skipped(why))) => return self.skip(why),
             Some((file, Number(n))) => (file, n.to_string()),
             Some((file, Word(w))) => (file, w),

@@ -1,11 +1,12 @@
 -- The level over a list of calls: from an opening at any level it stays within 0 to 30, by steps of at most 6 that are told. Assumes nothing.
-use Prim.Native.Nat.{ℕ, _≤_, _<_}
-use mathlib.Core.Bool.{Bool, true, false, not, _&&_}
+use Prim.Native.Nat.{ℕ, _-_, _≤_, _<_}
+use mathlib.Core.Bool.{Bool, true, not, _&&_}
 use mathlib.Core.Path.{_≡_, refl}
 use mathlib.Core.List.{List, [], _∷_}
 use native.Mathlib.Omega.{arith}
-use lib.Dec.{ltb, eqb}
-use borrow.Author.Tests.{ltb-true, eqb-false, not-true}
+use lib.Dec.{T-not, leb, ltb, eqb, ltb→lt}
+use lib.Ieee.Fits.{and-l}
+use borrow.Author.Tests.{eq-eqb}
 use Rattle.octets.proofs.Picks.{pick-either}
 use Rattle.attenuator.specs.Controller.{opened, runStart, heard, trips, stays, raised, overload, observed, releases, lowered, ticked}
 use Rattle.attenuator.specs.Level.{Call, observe, tick, called, Moves, Steady}
@@ -30,19 +31,21 @@ step-down : (c : Controller) (now : ℕ) → 0 < c .db → Good c (lowered c now
 step-down c now l =
     record { moves = record { rises = omega arith; falls = omega arith; told = (refl, refl, omega arith) }; keeps = λ h. omega arith }
 
-left-true : (a b : Bool) → a && b ≡ true → a ≡ true
-left-true true b h = refl
-left-true false b h = h
-
 below : (c : Controller) (start now : ℕ) → trips c start now ≡ true → c .db < 30
 unfolding trips
-below c start now h = ltb-true (c .db) 30 (left-true (ltb (c .db) 30) _ h)
+below c start now h = first (c .db) (leb (c .timing .«trip_after») (now - start)) h
+  where
+    first : (n : ℕ) (t : Bool) → (ltb n 30 && t) ≡ true → n < 30
+    first n t e = ltb→lt n 30 (and-l (ltb n 30) t (rw e tt))
 
 above : (c : Controller) (now : ℕ) → releases c now ≡ true → 0 < c .db
 unfolding releases
-above c now h =
-    let n = eqb-false (c .db) 0 (not-true (eqb (c .db) 0) (left-true (not (eqb (c .db) 0)) _ h)) in
-    omega (arith, n)
+above c now h = first (c .db) (leb (c .timing .«release_after») (now - c .«quiet_since»)) h
+  where
+    first : (n : ℕ) (t : Bool) → (not (eqb n 0) && t) ≡ true → 0 < n
+    first n t e =
+        let above-0 : n ≡ 0 → ⊥ = λ z. T-not (eqb n 0) (and-l (not (eqb n 0)) t (rw e tt)) (rw (eq-eqb n 0 z) tt) in
+        omega (arith, above-0)
 
 on-overload : (c : Controller) (start now : ℕ) → Good c (overload c start now)
 unfolding overload

@@ -1,6 +1,6 @@
 -- What the replies of both protocols share: the tests of a datagram's kind and status; and a told reply leaves no doubt which reply it was. Assumes nothing.
 use Prim.Native.Nat.{ℕ, _≤_, _<_}
-use mathlib.Core.Bool.{Bool, true, false, not, _&&_, _||_, and-false}
+use mathlib.Core.Bool.{Bool, true, false, not, _&&_, and-false, or-false}
 use mathlib.Core.Path.{_≡_, refl, sym, ap, _∙_}
 use mathlib.Core.List.{List}
 use lib.ListN.{length, getD}
@@ -12,7 +12,7 @@ use Rattle.octets.specs.Pick.{pick}
 use Rattle.octets.specs.Number.{beAt}
 use Rattle.octets.proofs.Picks.{pick-t, pick-f}
 use Rattle.wire.specs.Answer.{Told, gives, refused}
-use Rattle.discovery.specs.Reply.{Reply, statusNumber, replyAnswer, toldOf, noReply, isStatus, statusOf, checked, isP1, isP2}
+use Rattle.discovery.specs.Reply.{Reply, statusNumber, replyAnswer, toldOf, noReply, isStatus, checked, isP1, isP2}
 use Rattle.discovery.specs.declared.DiscoveryStatus.{DiscoveryStatus}
 use Rattle.discovery.specs.declared.DiscoveryStatus.the-variants.{Available, InUse}
 use Rattle.discovery.specs.declared.ReplyAnswer.{ReplyAnswer}
@@ -51,25 +51,18 @@ module _ (octet : ℕ) (t : Bool) (e : t ≡ isStatus octet) where
   unfolding checked
   a-status reply h = sym (pick-t _ _ _ (sym e ∙ not-false t h))
 
--- two tests of which one holds, and what the second decides
-by-tests : (octet : ℕ) (a b : Bool) → eqb octet 2 ≡ a → eqb octet 3 ≡ b → (a || b) ≡ true → statusNumber (pick b InUse Available) ≡ octet
-unfolding pick
-by-tests octet a true p q h = sym (eqb-true octet 3 q)
-by-tests octet true false p q h = sym (eqb-true octet 2 p)
-by-tests octet false false p q h = cc
-
-same-octet : (octet : ℕ) → isStatus octet ≡ true → statusNumber (statusOf octet) ≡ octet
-unfolding statusOf
-same-octet octet h = by-tests octet (eqb octet 2) (eqb octet 3) refl refl h
+-- a status that is not busy is idle
+pub idle : (octet : ℕ) → (octet ≡ 3 → ⊥) → isStatus octet ≡ true → 2 ≡ octet
+idle octet n h = sym (eqb-true octet 2 (sym (or-false (eqb octet 2)) ∙ rw (ne-eqb octet 3 n) at h))
 
 -- s is the status that was read and m the copied address: they tell what the octet and the datagram's part a tell
-pub replied : (octet : ℕ) (told : ℕ → Told) (s : DiscoveryStatus) (m a : List ℕ) → s ≡ statusOf octet → m ≡ a
+pub replied : (octet : ℕ) (told : ℕ → Told) (s : DiscoveryStatus) (m a : List ℕ) → (isStatus octet ≡ true → statusNumber s ≡ octet) → m ≡ a
     → checked octet (record { told = told (statusNumber s); mac = m }) ≡ checked octet (record { told = told octet; mac = a })
 unfolding checked pick
-replied octet told s m a p q = rw (p, q) (by-status (isStatus octet) (same-octet octet))
+replied octet told s m a h q = rw q (by-status (isStatus octet) h)
   where
-    by-status : (b : Bool) → (b ≡ true → statusNumber (statusOf octet) ≡ octet)
-        → pick b (record { told = told (statusNumber (statusOf octet)); mac = a }) noReply ≡ pick b (record { told = told octet; mac = a }) noReply
+    by-status : (b : Bool) → (b ≡ true → statusNumber s ≡ octet)
+        → pick b (record { told = told (statusNumber s); mac = a }) noReply ≡ pick b (record { told = told octet; mac = a }) noReply
     by-status true h = ap (λ (n : ℕ). record { told = told n; mac = a }) (h refl)
     by-status false h = refl
 

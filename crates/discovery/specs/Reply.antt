@@ -44,9 +44,6 @@ noReply = record { told = refused 18 []; mac = zeros 6 }
 abbrev pub isStatus : ℕ → Bool
 isStatus octet = eqb octet 2 || eqb octet 3
 
-unfoldable pub statusOf : ℕ → DiscoveryStatus
-statusOf octet = pick (eqb octet 3) InUse Available
-
 -- another status is no reply
 unfoldable pub checked : ℕ → Reply → Reply
 checked status reply = pick (isStatus status) reply noReply

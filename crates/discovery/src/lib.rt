@@ -1,11 +1,12 @@
 // Discovery: the Protocol 2 request, and what a radio of either protocol replies. A reply's sender, and so its address on
 // the network, is the caller's to know.
+ghost use mathlib.Core.Bool.{true};
 ghost use mathlib.Core.Path.{_≡_};
 ghost use Prim.Native.Nat.{_+_, _≤_};
 ghost use lib.ListN.{length, take, drop};
 ghost use Rattle.wire.specs.Packet.{Sent};
 ghost use Rattle.discovery.specs.Request.{requestPacket};
-ghost use Rattle.discovery.specs.Reply.{isStatus, statusOf, reply, toldOf, noReply, checked, isP1, isP2, replyP1, replyP2, replyTold};
+ghost use Rattle.discovery.specs.Reply.{statusNumber, isStatus, reply, toldOf, noReply, checked, isP1, isP2, replyP1, replyP2, replyTold};
 use wire::packet::PacketAnswer;
 
 pub const PROTOCOL2_REQUEST_LEN: usize = 60;
@@ -87,9 +88,9 @@ fn is_status(octet: u8) -> bool
     octet == STATUS_IDLE || octet == STATUS_BUSY
 }
 
-// Of an octet that is a status; another one is not read.
+// Of an octet that is a status: what another one gives is never told.
 fn status_of(octet: u8) -> DiscoveryStatus
-    ensures { λ r. ⌜ r ≡ statusOf octet ⌝ }
+    ensures { λ r. ⌜ (isStatus octet ≡ true → statusNumber r ≡ octet) ⌝ }
 {
     if octet == STATUS_BUSY {
         return DiscoveryStatus::InUse;

@@ -5,13 +5,15 @@ use lib.Dec.{leb, ltb}
 use Rattle.stall.specs.declared.StallEpisode.{StallEpisode}
 use Rattle.stall.specs.declared.Taken.{Taken}
 
+-- nothing delivered and nothing to report
 abbrev pub unarmed : ℕ → StallEpisode
 unarmed soft = record { «soft_after» = soft; delivering = false; pending = false }
 
+-- Take sets delivering
 abbrev pub delivered : StallEpisode → StallEpisode
 delivered e = record { «soft_after» = e .«soft_after»; delivering = true; pending = e .pending }
 
--- soft: delivering, hard time above soft time, and soft time passed since the last sample
+-- soft: delivering, hard time above soft time, and soft time passed since last, which the caller chooses as 01 says
 unfoldable pub isDue : StallEpisode → ℕ → ℕ → ℕ → Bool
 isDue e last now hard = e .delivering && ltb (e .«soft_after») hard && leb (e .«soft_after») (now - last)
 

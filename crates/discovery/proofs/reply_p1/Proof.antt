@@ -35,7 +35,7 @@ returns c =
     let b = status .before .before .before .args .buf .now in
     let told : ℕ → Told = λ s. gives (1 ∷ s ∷ getD b 10 0 ∷ getD b 9 0 ∷ []) in
     let read : toldOf (c .checked .result) ≡ checked (getD b 2 0) (record { told = told (statusNumber (status .status-of .result)); mac = mac .mac-at .result }) = c .checked .ensures in
-    read ∙ replied (getD b 2 0) told _ _ _ (status .status-of .ensures) (mac .mac-at .ensures)
+    read ∙ replied (getD b 2 0) told (status .status-of .result) _ _ (status .status-of .ensures) (mac .mac-at .ensures)
 
 pub reply-p1-spec : {M : Type 1} → statement M
 reply-p1-spec =

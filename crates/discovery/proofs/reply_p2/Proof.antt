@@ -38,7 +38,7 @@ returns c =
     let b = status .before .before .before .args .buf .now in
     let told : ℕ → Told = λ s. gives (2 ∷ s ∷ getD b 11 0 ∷ getD b 13 0 ∷ getD b 20 0 ∷ []) in
     let read : toldOf (c .checked .result) ≡ checked (getD b 4 0) (record { told = told (statusNumber (status .status-of .result)); mac = mac .mac-at .result }) = c .checked .ensures in
-    read ∙ replied (getD b 4 0) told _ _ _ (status .status-of .ensures) (mac .mac-at .ensures)
+    read ∙ replied (getD b 4 0) told (status .status-of .result) _ _ (status .status-of .ensures) (mac .mac-at .ensures)
 
 pub reply-p2-spec : {M : Type 1} → statement M
 reply-p2-spec =
