@@ -11,6 +11,10 @@ test:
 vectors:
 	@(for part in double wire attenuator part; do python3 -B tools/$${part}_cases.py || exit 1; done) > crates/cases/stdin
 
-# Runs the cases through the Rust's own functions, and measures against them. MANTA_SRC names the folder with manta's crates/.
-oracle bench:
-	@$@/run
+# MANTA_SRC names the folder with manta's crates/. Runs the cases through the Rust's own functions.
+oracle:
+	@oracle/run cases crates/cases/stdin
+
+# Measures against the Rust's own functions.
+bench:
+	@bench/run

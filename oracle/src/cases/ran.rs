@@ -1,5 +1,4 @@
 //! What the Rust gave for a case, as the case spells it.
-use std::time::{Duration, Instant};
 
 pub enum Ran {
     Number(u64),
@@ -26,19 +25,4 @@ pub fn lent(packet: &[u8], given: &[u8]) -> Ran {
     let mut p = given.to_vec();
     p[..packet.len()].copy_from_slice(packet);
     word(&p)
-}
-
-/// Readings count from one Instant. None for one that an Instant can't hold.
-pub struct Clock(Instant);
-
-pub const PAST_INSTANT: &str = "a reading past the largest Instant";
-
-impl Clock {
-    pub fn new() -> Self {
-        Self(Instant::now())
-    }
-
-    pub fn at(&self, reading: u64) -> Option<Instant> {
-        self.0.checked_add(Duration::from_nanos(reading))
-    }
 }

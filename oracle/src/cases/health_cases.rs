@@ -1,9 +1,8 @@
-//! The counts: manta's own InputHealthCounters, which oracle/run cuts out of lib.rs. Their fields are private to this module.
-use crate::ran::{Ran, Ran::*};
+//! The counts: manta's own InputHealthCounters, cut out of lib.rs.
+use crate::cases::ran::{Ran, Ran::*};
+use crate::InputHealthCounters;
 use std::sync::atomic::AtomicU64;
 use std::sync::Arc;
-
-include!("counters.rs");
 
 const DROPPED: u64 = 1001;
 const GAPS: u64 = 2002;

@@ -1,6 +1,6 @@
 //! Boards, filters, rates, the tracker, packets and datagrams: manta's own wire.rs.
-use crate::ran::{lent, option, Ran, Ran::*};
-use crate::wire::*;
+use crate::cases::ran::{lent, option, Ran, Ran::*};
+use crate::hpsdr::proto2::wire::*;
 use num_complex::Complex32;
 
 fn scheme(n: u64) -> FilterScheme {

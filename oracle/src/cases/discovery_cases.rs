@@ -1,6 +1,8 @@
 //! Discovery: manta's own discovery.rs.
-use crate::discovery::{discovery_request_p2, parse_reply, DiscoveryProtocol, DiscoveryStatus};
-use crate::ran::{lent, word, Ran, Ran::*};
+use crate::cases::ran::{lent, word, Ran, Ran::*};
+use crate::hpsdr::discovery::{
+    discovery_request_p2, parse_reply, DiscoveryProtocol, DiscoveryStatus,
+};
 
 /// A reply over the front of its octets; Protocol 1 tells no receivers.
 fn reply(p: &[u8]) -> Ran {

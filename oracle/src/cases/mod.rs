@@ -1,31 +1,15 @@
-//! Runs the cases (crates/cases/stdin) through manta's own functions: oracle/cases TEXT. Says for each of manta's files how
-//! many lines were run and how many differ, and how many lines the Rust has no counterpart for, and why.
-#[allow(dead_code)]
-mod attenuator;
+//! Runs the cases (crates/cases/stdin) through manta's own functions. Says for each of manta's files how many lines were run
+//! and how many differ, and how many lines the Rust has no counterpart for, and why.
 mod attenuator_cases;
-#[allow(dead_code)]
-mod discovery;
 mod discovery_cases;
-#[allow(dead_code)]
 mod health_cases;
 mod instant_cases;
 mod ran;
-#[allow(dead_code)]
-mod stall;
 mod stall_cases;
-#[allow(dead_code)]
-mod wire;
 mod wire_cases;
 
 use ran::Ran::{self, *};
 use std::collections::BTreeMap;
-
-/// What discovery.rs binds a probe's socket by. No case probes.
-mod local_bind {
-    pub fn bind_udp_for(_: std::net::IpAddr) -> std::io::Result<std::net::UdpSocket> {
-        Err(std::io::ErrorKind::Unsupported.into())
-    }
-}
 
 /// None for a function of another file.
 type Run = fn(&str, &[u64], &[u8]) -> Option<Ran>;
@@ -148,9 +132,8 @@ impl Tally {
     }
 }
 
-fn main() {
-    let path = std::env::args().nth(1).expect("a text of cases");
-    let text = std::fs::read_to_string(path).unwrap();
+/// Whether none differs.
+pub fn run(text: &str) -> bool {
     let mut tally = Tally::default();
     for (i, line) in text.lines().enumerate() {
         let line = line.split('#').next().unwrap().trim();
@@ -158,5 +141,5 @@ fn main() {
             tally.line(i + 1, line);
         }
     }
-    std::process::exit(if tally.tell() { 0 } else { 1 });
+    tally.tell()
 }

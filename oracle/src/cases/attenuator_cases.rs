@@ -1,7 +1,8 @@
 //! The attenuator: lists of calls through manta's own attenuator.rs.
-use crate::attenuator::{AttenuationCause, AttenuationStep, Controller, Timing};
-use crate::ran::{word, Clock, Ran, Ran::*, PAST_INSTANT};
-use std::time::{Duration, Instant};
+use crate::cases::ran::{word, Ran, Ran::*};
+use crate::clock::Instant;
+use crate::hpsdr::proto2::attenuator::{AttenuationCause, AttenuationStep, Controller, Timing};
+use std::time::Duration;
 
 /// A call's octets: its kind, and the reading.
 const CALL: usize = 9;
@@ -22,24 +23,22 @@ fn told(step: Option<AttenuationStep>) -> [u8; 3] {
     })
 }
 
-/// None where a reading is past the largest Instant.
-fn calls(a: &[u64], p: &[u8]) -> Option<Ran> {
+fn calls(a: &[u64], p: &[u8]) -> Ran {
     assert!(a[0] < 256 && p.len() % CALL == 0);
-    let clock = Clock::new();
     let timing = Timing {
         hold: Duration::from_nanos(a[1]),
         trip_after: Duration::from_nanos(a[2]),
         release_after: Duration::from_nanos(a[3]),
     };
-    let mut c = Controller::new(a[0] as u8, clock.at(a[4])?, timing);
+    let mut c = Controller::new(a[0] as u8, Instant::at(a[4]), timing);
     let mut p = p.to_vec();
     for call in p.chunks_exact_mut(CALL) {
         let reading = u64::from_be_bytes(call[1..].try_into().unwrap());
-        let step = called(&mut c, call[0], clock.at(reading)?);
+        let step = called(&mut c, call[0], Instant::at(reading));
         call[..3].copy_from_slice(&told(step));
         call[3] = c.db();
     }
-    Some(word(&p))
+    word(&p)
 }
 
 fn nanoseconds(d: Duration) -> Ran {
@@ -48,7 +47,7 @@ fn nanoseconds(d: Duration) -> Ran {
 
 pub fn run(name: &str, a: &[u64], p: &[u8]) -> Option<Ran> {
     Some(match name {
-        "attenuator" => calls(a, p).unwrap_or(Skipped(PAST_INSTANT)),
+        "attenuator" => calls(a, p),
         "timing_hold" => nanoseconds(Timing::default().hold),
         "timing_trip" => nanoseconds(Timing::default().trip_after),
         "timing_release" => nanoseconds(Timing::default().release_after),

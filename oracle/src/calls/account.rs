@@ -1,0 +1,109 @@
+//! The account of a session: what was told of each stretch, and in all.
+use crate::calls::answer::{Answer, Event};
+use crate::calls::call::{Arrival, Call, Datagram};
+use std::fmt;
+
+/// A stretch begins with the first arrival, and with each one told Restart.
+#[derive(Debug, Clone)]
+struct Stretch {
+    /// Its first arrival's reading and number, and the missing that a Restart told there.
+    at: u64,
+    first: u32,
+    restart: u64,
+    /// The highest number, counted on from the first past 2^32.
+    highest: u64,
+    samples: u64,
+    /// Told after its first arrival.
+    missing: u64,
+}
+
+#[derive(Debug, Clone, Default)]
+pub struct Account {
+    stretches: Vec<Stretch>,
+    handed: u64,
+    waiting: u64,
+    counts: [u64; 3],
+}
+
+/// A number of I/Q: of the datagram that a list makes from one, or the first four octets.
+fn number(d: &Datagram) -> u32 {
+    u32::from_be_bytes(d.octets()[..4].try_into().unwrap())
+}
+
+impl Account {
+    /// An accepted arrival with so many samples.
+    fn accepted(&mut self, a: &Arrival, event: &Event, missing: u64, samples: u64) {
+        let number = number(&a.datagram);
+        match self.stretches.last_mut() {
+            Some(s) if *event != Event::Restart => {
+                s.highest += number.wrapping_sub(s.highest as u32) as u64;
+                s.samples += samples;
+                s.missing += missing;
+            }
+            _ => self.stretches.push(Stretch {
+                at: a.at,
+                first: number,
+                restart: missing,
+                highest: number as u64,
+                samples,
+                missing: 0,
+            }),
+        }
+    }
+
+    /// A call and its answer; `samples` are those of a datagram that was accepted.
+    pub fn told(&mut self, call: &Call, answer: &Answer, samples: u64) {
+        match (call, answer) {
+            (Call::Arrival(_), Answer::Iq(Event::Stale, _)) => {}
+            (Call::Arrival(a), Answer::Iq(event, missing)) => {
+                self.accepted(a, event, *missing, samples)
+            }
+            (Call::Take(..), Answer::Took(pairs, _)) => self.handed += *pairs as u64,
+            _ => {}
+        }
+    }
+
+    pub fn stretches(&self) -> usize {
+        self.stretches.len()
+    }
+
+    /// What the session holds at its end.
+    pub fn end(&mut self, waiting: u64, counts: [u64; 3]) {
+        self.waiting = waiting;
+        self.counts = counts;
+    }
+}
+
+impl fmt::Display for Account {
+    fn fmt(&self, f: &mut fmt::Formatter<'_>) -> fmt::Result {
+        for (i, s) in self.stretches.iter().enumerate() {
+            writeln!(
+                f,
+                "stretch {} at {} first {} highest {} samples {} missing {} restart {}",
+                i + 1,
+                s.at,
+                s.first,
+                s.highest,
+                s.samples,
+                s.missing,
+                s.restart
+            )?;
+        }
+        let sum = |of: fn(&Stretch) -> u64| self.stretches.iter().map(of).sum::<u64>();
+        writeln!(
+            f,
+            "total stretches {} samples {} missing {} restart {} handed {} waiting {}",
+            self.stretches.len(),
+            sum(|s| s.samples),
+            sum(|s| s.missing),
+            sum(|s| s.restart),
+            self.handed,
+            self.waiting
+        )?;
+        let [dropped, gaps, malformed] = self.counts;
+        writeln!(
+            f,
+            "counters dropped {dropped} gaps {gaps} malformed {malformed}"
+        )
+    }
+}

@@ -1,0 +1,7 @@
+//! Lists of calls: docs/CALLS.md.
+pub mod account;
+pub mod answer;
+pub mod call;
+pub mod list;
+pub mod parse;
+pub mod write;
