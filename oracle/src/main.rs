@@ -2,6 +2,9 @@
 mod calls;
 mod cases;
 mod clock;
+mod errors;
+mod generate;
+mod lists;
 mod script;
 mod socket;
 
@@ -14,26 +17,52 @@ mod local_bind {
     }
 }
 
-const USAGE: &str = "oracle cases FILE | calls FILE";
+const USAGE: &str = "oracle/run check FOLDER      every test, of the repository in FOLDER
+oracle/run cases FILE        a text of cases, judged by the Rust
+oracle/run calls FILE        a list of calls, answered by the Rust (docs/CALLS.md)
+oracle/run lists FOLDER      the lists in FOLDER, against the answers beside them
+oracle/run write FOLDER      the answers of the lists in FOLDER, anew
+oracle/run generate SEED CALLS    a random list of at least so many calls";
 
-fn text(path: &str) -> String {
-    let octets = std::fs::read(path).unwrap_or_else(|e| panic!("{path}: {e}"));
+fn text(path: impl AsRef<std::path::Path>) -> String {
+    let path = path.as_ref();
+    let octets = std::fs::read(path).unwrap_or_else(|e| panic!("{}: {e}", path.display()));
     String::from_utf8_lossy(&octets).into_owned()
+}
+
+/// Runs all, also where one fails.
+fn check(top: &str) -> bool {
+    let cases = cases::run(&text(format!("{top}/crates/cases/stdin")));
+    let errors = errors::lines(&text(format!("{top}/lists/errors.txt")));
+    let outside = errors::lists(&text(format!("{top}/oracle/no_counterpart.txt")));
+    let lists = lists::check(&format!("{top}/lists"));
+    cases && errors && outside && lists
+}
+
+fn calls(file: &str) -> bool {
+    let out = std::io::BufWriter::new(std::io::stdout().lock());
+    calls::list::run(&text(file), out).1
 }
 
 fn main() {
     let args: Vec<String> = std::env::args().skip(1).collect();
     let args: Vec<&str> = args.iter().map(String::as_str).collect();
-    let fine = match args[..] {
-        ["cases", file] => cases::run(&text(file)),
-        ["calls", file] => {
-            let out = std::io::BufWriter::new(std::io::stdout().lock());
-            calls::list::run(&text(file), out).1
-        }
+    let number = |word: &str| {
+        word.parse()
+            .unwrap_or_else(|_| panic!("{word} is no number"))
+    };
+    let mut fine = true;
+    match args[..] {
+        ["check", folder] => fine = check(folder),
+        ["cases", file] => fine = cases::run(&text(file)),
+        ["lists", folder] => fine = lists::check(folder),
+        ["calls", file] => fine = calls(file),
+        ["write", folder] => lists::write(folder),
+        ["generate", seed, n] => print!("{}", generate::text(number(seed), number(n))),
         _ => {
             eprintln!("{USAGE}");
-            false
+            fine = false;
         }
-    };
+    }
     std::process::exit(if fine { 0 } else { 1 });
 }

@@ -34,6 +34,8 @@ pub trait Feed {
     fn take(&mut self) -> Result<Call, Stop>;
     /// The waiting numbers don't begin with those that it received ahead.
     fn waiting(&mut self) -> Stop;
+    /// It has received these ahead.
+    fn received(&mut self, _: &VecDeque<u32>) {}
 }
 
 /// One that its owner keeps.
@@ -49,6 +51,9 @@ impl<F: Feed> Feed for Rc<RefCell<F>> {
     }
     fn waiting(&mut self) -> Stop {
         self.borrow_mut().waiting()
+    }
+    fn received(&mut self, ahead: &VecDeque<u32>) {
+        self.borrow_mut().received(ahead)
     }
 }
 
@@ -254,7 +259,9 @@ impl Script {
     }
 
     fn look_ahead(&mut self, on: bool) -> Result<(), Stop> {
-        self.new = None;
+        if self.new.take().is_some() {
+            self.feed.received(&self.ahead);
+        }
         if on {
             let Call::Arrival(a) = &self.current().call else {
                 panic!("looked ahead in {:?}", self.current().call);

@@ -132,10 +132,8 @@ impl Session {
             Some(Ok(n)) => End::Took(buf[..n].iter().flat_map(|c| [c.re, c.im]).collect()),
             Some(Err(e)) => failed(e),
         };
-        if end == End::Open && ran.handing {
-            // it moves its place in the queue before it asks for Take's reading
-            assert_eq!(pairs, 1);
-            self.source.queue_pos -= 1;
+        if end == End::Open {
+            self.left_open(ran.handing, pairs);
         }
         Ok(Read {
             end,
@@ -143,6 +141,18 @@ impl Session {
             handing: ran.handing,
             missing: self.pending() - before,
         })
+    }
+
+    /// The list ended in a read. What waits is what the calls before left: the Rust moves its place in the queue before it
+    /// asks for Take's reading, and puts the next datagram's samples there before it asks for that one's.
+    fn left_open(&mut self, handing: bool, pairs: usize) {
+        if handing {
+            assert_eq!(pairs, 1);
+            self.source.queue_pos -= 1;
+        } else {
+            self.source.queue.clear();
+            self.source.queue_pos = 0;
+        }
     }
 
     pub fn take_missing_samples(&mut self) -> Option<u64> {
@@ -235,4 +245,64 @@ pub fn state(s: &Session) -> String {
         s.last_high_priority,
         attenuation.unwrap_or("off".into()),
     )
+}
+
+/// What a generator of calls aims at.
+pub struct Seen {
+    pub expected: Option<u32>,
+    pub valid: u64,
+    pub taken: u64,
+    pub anchor: Option<u64>,
+    pub waiting: u64,
+    pub in_window: bool,
+    /// General, receive and transmit, high priority.
+    pub clocks: [u64; 3],
+    pub overload: Option<u64>,
+    pub run: Option<u64>,
+    pub quiet: Option<u64>,
+}
+
+pub fn seen(s: &Session) -> Seen {
+    let s = &s.source;
+    let number = |text: String| text.parse::<u64>().ok();
+    let time = |name| s.attenuation.as_ref().and_then(|a| number(field(&a.controller, name)));
+    Seen {
+        expected: number(field(&s.tracker, "expected")).map(|e| e as u32),
+        valid: s.last_valid_iq.reading(),
+        taken: s.read_returned.reading(),
+        anchor: s.wait_entered.map(Instant::reading),
+        waiting: (s.queue.len() - s.queue_pos) as u64,
+        in_window: s.parked.is_some(),
+        clocks: [s.last_general, s.last_rx_tx_specific, s.last_high_priority].map(Instant::reading),
+        overload: time("last_overload"),
+        run: time("run_start"),
+        quiet: time("quiet_since"),
+    }
+}
+
+/// The Rust's own judgement of a gap, in a session that is kept beside the one that runs.
+pub struct Limits(Session);
+
+impl Limits {
+    pub fn new(s: &Settings) -> Self {
+        Self(open(s).unwrap_or_else(|n| panic!("refused {n}")))
+    }
+
+    /// As the other session stands when a read begins.
+    pub fn follow(&mut self, s: &Session, begin: u64) {
+        let mine = &mut self.0.source;
+        mine.last_accepted_iq = s.source.last_accepted_iq;
+        mine.parked = s.source.parked;
+        let from = s.source.read_returned;
+        if mine.parked.is_none() && Instant::at(begin).duration_since(from) >= PARKED_AFTER {
+            let left = s.source.park_window;
+            mine.parked = Some(Parked { from, accounted: 0, left });
+        }
+    }
+
+    /// The most datagrams that can have been lost before an arrival.
+    pub fn limit(&self, at: u64) -> u64 {
+        let source = &self.0.source;
+        plausible_lost_datagrams(source.unaccounted(Instant::at(at)), source.sample_rate_hz)
+    }
 }
