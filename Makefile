@@ -1,19 +1,29 @@
 # rt is taken from the PATH, or else from the toolchain's folder under RATTLE_HOME.
 RT := $(shell command -v rt 2>/dev/null || { [ -n "$$RATTLE_HOME" ] && echo "$$RATTLE_HOME/bin/rt"; })
+# The folder with manta's crates/. Where it is not there, `make test` leaves the oracle out.
+MANTA_SRC ?= $(wildcard ../shared/docs/src)
+export MANTA_SRC
 
-.PHONY: test vectors oracle bench
-# Proves every crate from nothing, tries every must-fail edit and runs every program.
+.PHONY: test vectors oracle changes bench
+# Proves every crate from nothing, tries every must-fail edit, runs every program, and then the oracle's own tests.
 test:
 	@[ -n "$(RT)" ] || { echo "make test: no rt on the PATH, and RATTLE_HOME is not set" >&2; exit 1; }
-	@"$(RT)" ci
+	@tools/test "$(RT)"
 
-# Works the values that the program `cases` is run on out again.
+# Makes what the program `cases` is run on again: values worked out from 01, then the Rust's own. If a part fails, it
+# stays as it was.
+STDIN := crates/cases/stdin
 vectors:
-	@(for part in double wire attenuator part; do python3 -B tools/$${part}_cases.py || exit 1; done) > crates/cases/stdin
+	@(for part in double wire attenuator part; do python3 -B tools/$${part}_cases.py || exit 1; done; \
+	  echo; oracle/run vectors) > $(STDIN).new && mv $(STDIN).new $(STDIN) || { rm -f $(STDIN).new; exit 1; }
 
-# MANTA_SRC names the folder with manta's crates/. Runs the cases through the Rust's own functions.
+# Builds the Rust under its scripted clock and socket, and runs the cases and the lists of calls through it.
 oracle:
-	@oracle/run cases crates/cases/stdin
+	@oracle/run check .
+
+# Changes the Rust here and there, and asks of each change that the lists of calls show it.
+changes:
+	@python3 -B oracle/try_changes.py
 
 # Measures against the Rust's own functions.
 bench:

@@ -1,5 +1,6 @@
 #!/usr/bin/env python3
-"""Prints the cases of the soft stall, of discovery and of the counts that the program `cases` runs; `make vectors` puts them last.
+"""Prints the cases of the soft stall, of discovery and of the counts that the program `cases` runs; `make vectors` puts them
+after those of the attenuator.
 
 Every expected value is worked out from document 01 (Which number, at which check; The session) and the Rust's text in
 stall.rs and discovery.rs. A stall's flags are told from the calls before, and a reply is a list of numbers. It shares

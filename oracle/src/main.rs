@@ -5,8 +5,10 @@ mod clock;
 mod errors;
 mod generate;
 mod lists;
+mod random;
 mod script;
 mod socket;
+mod vectors;
 
 include!(concat!(env!("OUT_DIR"), "/manta.rs"));
 
@@ -22,7 +24,8 @@ oracle/run cases FILE        a text of cases, judged by the Rust
 oracle/run calls FILE        a list of calls, answered by the Rust (docs/CALLS.md)
 oracle/run lists FOLDER      the lists in FOLDER, against the answers beside them
 oracle/run write FOLDER      the answers of the lists in FOLDER, anew
-oracle/run generate SEED CALLS    a random list of at least so many calls";
+oracle/run generate SEED CALLS    a random list of at least so many calls
+oracle/run vectors           cases whose expected values are the Rust's";
 
 fn text(path: impl AsRef<std::path::Path>) -> String {
     let path = path.as_ref();
@@ -58,6 +61,7 @@ fn main() {
         ["lists", folder] => fine = lists::check(folder),
         ["calls", file] => fine = calls(file),
         ["write", folder] => lists::write(folder),
+        ["vectors"] => vectors::run(),
         ["generate", seed, n] => print!("{}", generate::text(number(seed), number(n))),
         _ => {
             eprintln!("{USAGE}");

@@ -4,6 +4,9 @@ use crate::calls::call::{Call, Settings};
 use crate::script::{self, Feed, Made, Problem, Script, Stop};
 use std::fmt::Debug;
 
+#[path = "arithmetic.rs"]
+pub mod arithmetic;
+
 pub struct Session {
     source: Protocol2IqSource,
     settings: Settings,
@@ -114,18 +117,28 @@ fn failed(e: anyhow::Error) -> End {
 
 impl Session {
     fn pending(&self) -> u64 {
-        let slots = [self.source.pending_missing, self.source.pending_discontinuity];
+        let slots = [
+            self.source.pending_missing,
+            self.source.pending_discontinuity,
+        ];
         slots.iter().flatten().sum()
     }
 
     /// One read into room for so many pairs, from Begin on.
-    pub fn read(&mut self, feed: impl Feed + 'static, at: u64, pairs: usize) -> Result<Read, Problem> {
+    pub fn read(
+        &mut self,
+        feed: impl Feed + 'static,
+        at: u64,
+        pairs: usize,
+    ) -> Result<Read, Problem> {
         let before = self.pending();
         let mut buf = vec![Complex32::new(0.0, 0.0); pairs];
         let counters = self.source.health_counters.clone();
         let script = Script::new(Box::new(feed), &self.settings, Some(counters));
         let source = &mut self.source;
-        let ran = script::run(script, Call::Begin(at), &mut self.ahead, || source.read(&mut buf))?;
+        let ran = script::run(script, Call::Begin(at), &mut self.ahead, || {
+            source.read(&mut buf)
+        })?;
         let end = match ran.value {
             None => End::Open,
             Some(Ok(0)) => End::Soft,
@@ -185,7 +198,9 @@ impl Session {
 
     /// Close: manta's Drop.
     pub fn close(self, call: Call) -> Vec<Made> {
-        let Self { source, settings, .. } = self;
+        let Self {
+            source, settings, ..
+        } = self;
         alone(&settings, call, || drop(source)).1
     }
 }
@@ -216,12 +231,20 @@ fn or_none<T: Debug>(x: Option<T>) -> String {
 /// What the session holds, as docs/CALLS.md has it.
 pub fn state(s: &Session) -> String {
     let s = &s.source;
-    let window = s.parked.map(|p| format!("{:?} {} {}", p.from, p.accounted, p.left));
+    let window = s
+        .parked
+        .map(|p| format!("{:?} {} {}", p.from, p.accounted, p.left));
     let [general, rx, tx, high] = s.seq;
     let attenuation = s.attenuation.as_ref().map(|a| {
         let c = &a.controller;
         let times = ["run_start", "last_overload", "quiet_since"].map(|name| field(c, name));
-        format!("{} run {} overload {} quiet {}", c.db(), times[0], times[1], times[2])
+        format!(
+            "{} run {} overload {} quiet {}",
+            c.db(),
+            times[0],
+            times[1],
+            times[2]
+        )
     });
     format!(
         "state expected {} stale {} waiting {} anchor {} valid {:?} accepted {:?} taken {:?} window {} missing {} \
@@ -265,7 +288,11 @@ pub struct Seen {
 pub fn seen(s: &Session) -> Seen {
     let s = &s.source;
     let number = |text: String| text.parse::<u64>().ok();
-    let time = |name| s.attenuation.as_ref().and_then(|a| number(field(&a.controller, name)));
+    let time = |name| {
+        s.attenuation
+            .as_ref()
+            .and_then(|a| number(field(&a.controller, name)))
+    };
     Seen {
         expected: number(field(&s.tracker, "expected")).map(|e| e as u32),
         valid: s.last_valid_iq.reading(),
@@ -296,7 +323,11 @@ impl Limits {
         let from = s.source.read_returned;
         if mine.parked.is_none() && Instant::at(begin).duration_since(from) >= PARKED_AFTER {
             let left = s.source.park_window;
-            mine.parked = Some(Parked { from, accounted: 0, left });
+            mine.parked = Some(Parked {
+                from,
+                accounted: 0,
+                left,
+            });
         }
     }
 

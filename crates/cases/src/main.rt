@@ -19,7 +19,7 @@ mod words;
 // There is room for more cases than there are. What does not fit is told, and nothing is run: a cut input would pass
 // with the cases that are left.
 fn main() {
-    let mut text = [0u8; 262144];
+    let mut text = [0u8; 524288];
     let n = io::read_full(libc::STDIN_FILENO, &mut text);
     let mut more = [0u8; 1];
     if io::read_full(libc::STDIN_FILENO, &mut more) > 0 {

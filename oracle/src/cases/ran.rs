@@ -1,4 +1,5 @@
 //! What the Rust gave for a case, as the case spells it.
+use std::panic::{self, AssertUnwindSafe};
 
 pub enum Ran {
     Number(u64),
@@ -8,9 +9,13 @@ pub enum Ran {
 }
 use Ran::*;
 
-pub fn word(p: &[u8]) -> Ran {
+pub fn spelt(p: &[u8]) -> String {
     let hex: String = p.iter().map(|b| format!("{b:02x}")).collect();
-    Word(format!("x:{hex}"))
+    format!("x:{hex}")
+}
+
+pub fn word(p: &[u8]) -> Ran {
+    Word(spelt(p))
 }
 
 pub fn option(n: Option<u64>, none: &str) -> Ran {
@@ -25,4 +30,22 @@ pub fn lent(packet: &[u8], given: &[u8]) -> Ran {
     let mut p = given.to_vec();
     p[..packet.len()].copy_from_slice(packet);
     word(&p)
+}
+
+/// None where the Rust panics with this text. It is run quietly: any other panic is told and goes on.
+pub fn unless_panics<T>(text: &str, body: impl FnOnce() -> T) -> Option<T> {
+    let hook = panic::take_hook();
+    panic::set_hook(Box::new(|_| {}));
+    let done = panic::catch_unwind(AssertUnwindSafe(body));
+    panic::set_hook(hook);
+    let why = match done {
+        Ok(value) => return Some(value),
+        Err(why) => why,
+    };
+    let fixed = why.downcast_ref::<&str>().copied();
+    let told = fixed.or(why.downcast_ref::<String>().map(String::as_str));
+    match told {
+        Some(told) if told.contains(text) => None,
+        _ => panic!("the Rust panics: {told:?}"),
+    }
 }

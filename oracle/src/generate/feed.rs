@@ -1,8 +1,8 @@
 //! Makes the calls of a read as the Rust asks for them, aiming at the edges of what it holds.
 use crate::calls::call::{Arrival, Call, Datagram, Iq, Settings, Waiting};
-use crate::generate::random::Random;
 use crate::generate::settings::{Theme, MS, S};
 use crate::hpsdr::proto2::session::{Limits, Seen};
+use crate::random::Random;
 use crate::script::{Feed, Stop};
 use std::collections::VecDeque;
 

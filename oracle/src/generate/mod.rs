@@ -1,12 +1,11 @@
 //! Random lists of calls from a seed, within 01's domain, that aim at the edges (docs/CALLS.md, lists/README.md).
 mod feed;
-mod random;
 mod settings;
 
 use crate::calls::call::{Call, Settings};
 use crate::hpsdr::proto2::session::{self, End, Limits, Session};
+use crate::random::Random;
 use feed::RandomFeed;
-use random::Random;
 use settings::{Theme, MS, S, THEMES};
 use std::cell::RefCell;
 use std::collections::VecDeque;

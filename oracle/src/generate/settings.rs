@@ -1,6 +1,6 @@
 //! Settings to open a session with: accepted ones for each kind of list, and ones that are refused.
 use crate::calls::call::Settings;
-use crate::generate::random::Random;
+use crate::random::Random;
 use std::net::Ipv4Addr;
 
 pub const MS: u64 = 1_000_000;

@@ -52,4 +52,12 @@ impl Random {
             _ => n.saturating_add(1),
         }
     }
+    /// Of so many binary digits at most: any count of them is as likely.
+    pub fn sized(&mut self, most: u64) -> u64 {
+        self.any() >> (63 - self.below(most))
+    }
+
+    pub fn octets(&mut self, n: usize) -> Vec<u8> {
+        (0..n).map(|_| self.any() as u8).collect()
+    }
 }
