@@ -14,8 +14,8 @@ fn lists(folder: &str) -> Vec<PathBuf> {
 /// The answers to a list, and how many calls were answered.
 fn answered(path: &Path) -> (String, usize) {
     let mut answers = vec![];
-    let (calls, _) = list::run(&crate::text(path), &mut answers);
-    (String::from_utf8(answers).unwrap(), calls)
+    let ran = list::run(&crate::text(path), &mut answers);
+    (String::from_utf8(answers).unwrap(), ran.calls)
 }
 
 /// The first line in which the two differ.

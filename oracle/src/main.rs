@@ -39,12 +39,12 @@ fn check(top: &str) -> bool {
     let errors = errors::lines(&text(format!("{top}/lists/errors.txt")));
     let outside = errors::lists(&text(format!("{top}/oracle/no_counterpart.txt")));
     let lists = lists::check(&format!("{top}/lists"));
-    cases && errors && outside && lists
+    cases && errors && outside && lists && generate::check()
 }
 
 fn calls(file: &str) -> bool {
     let out = std::io::BufWriter::new(std::io::stdout().lock());
-    calls::list::run(&text(file), out).1
+    calls::list::run(&text(file), out).fine
 }
 
 fn main() {

@@ -67,6 +67,13 @@ impl Account {
         self.stretches.len()
     }
 
+    /// Demand 3's two sums: in each stretch, and of what was handed out and what waits.
+    pub fn adds_up(&self) -> bool {
+        let even = |s: &Stretch| s.samples + s.missing == 238 * (s.highest - s.first as u64 + 1);
+        let samples: u64 = self.stretches.iter().map(|s| s.samples).sum();
+        self.stretches.iter().all(even) && samples == self.handed + self.waiting
+    }
+
     /// What the session holds at its end.
     pub fn end(&mut self, waiting: u64, counts: [u64; 3]) {
         self.waiting = waiting;

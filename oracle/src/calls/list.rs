@@ -144,8 +144,20 @@ struct Runner<W: Write> {
     session: Option<Session>,
     /// The account of a session that was opened, until it is written.
     account: Option<Account>,
-    calls: usize,
+    ran: Ran,
     out: W,
+}
+
+/// What came of a list.
+#[derive(Debug, Default)]
+pub struct Ran {
+    /// How many calls were answered, and how many stretches the accounts have.
+    pub calls: usize,
+    pub stretches: usize,
+    /// Accounts whose sums are not those of demand 3.
+    pub uneven: usize,
+    /// Whether no line went wrong.
+    pub fine: bool,
 }
 
 impl<W: Write> Runner<W> {
@@ -156,7 +168,7 @@ impl<W: Write> Runner<W> {
         answer: Answer,
         samples: u64,
     ) -> Result<(), Problem> {
-        self.calls += 1;
+        self.ran.calls += 1;
         writeln!(self.out, "{answer}").unwrap();
         if let Some(account) = self.account.as_mut() {
             account.told(call, &answer, samples);
@@ -182,6 +194,8 @@ impl<W: Write> Runner<W> {
         }
         if let Some(account) = self.account.take() {
             write!(self.out, "{account}").unwrap();
+            self.ran.stretches += account.stretches();
+            self.ran.uneven += !account.adds_up() as usize;
         }
     }
 
@@ -248,8 +262,8 @@ impl<W: Write> Runner<W> {
 }
 
 /// Writes an answer a line, and the account of each session at its end. What goes wrong is the last line, and no account
-/// follows it. Gives the number of calls that were answered, and whether nothing went wrong.
-pub fn run(text: &str, out: impl Write) -> (usize, bool) {
+/// follows it.
+pub fn run(text: &str, out: impl Write) -> Ran {
     let (lines, wrong) = read_list(text);
     let feed = ListFeed {
         lines,
@@ -260,7 +274,7 @@ pub fn run(text: &str, out: impl Write) -> (usize, bool) {
         feed: Rc::new(RefCell::new(feed)),
         session: None,
         account: None,
-        calls: 0,
+        ran: Ran::default(),
         out,
     };
     let problem = runner.run().err().or(wrong);
@@ -268,5 +282,8 @@ pub fn run(text: &str, out: impl Write) -> (usize, bool) {
         Some(p) => writeln!(runner.out, "error line {}: {}", p.line, p.text).unwrap(),
         None => runner.end(),
     }
-    (runner.calls, problem.is_none())
+    Ran {
+        fine: problem.is_none(),
+        ..runner.ran
+    }
 }

@@ -3,6 +3,7 @@ mod feed;
 mod settings;
 
 use crate::calls::call::{Call, Settings};
+use crate::calls::{list, parse};
 use crate::hpsdr::proto2::session::{self, End, Limits, Session};
 use crate::random::Random;
 use feed::RandomFeed;
@@ -150,4 +151,31 @@ pub fn text(seed: u64, calls: u64) -> String {
         };
     }
     String::from_utf8(out).unwrap()
+}
+
+/// Whether each line of a list reads as the call that it was written from.
+fn reads_back(list: &str) -> bool {
+    let same = |line: &str| match parse::line(line) {
+        Ok(Some(call)) => call.to_string() == line,
+        Ok(None) => true,
+        Err(_) => false,
+    };
+    list.lines().all(same)
+}
+
+/// Lists from further seeds: the Rust answers them all, and its accounts add up as demand 3 says.
+pub fn check() -> bool {
+    let (mut calls, mut stretches, mut wrong) = (0, 0, 0);
+    for seed in 101..=110 {
+        let list = text(seed, 10_000);
+        let ran = list::run(&list, std::io::sink());
+        calls += ran.calls;
+        stretches += ran.stretches;
+        if !ran.fine || ran.uneven > 0 || !reads_back(&list) {
+            wrong += 1;
+            println!("the list of seed {seed}: {ran:?}");
+        }
+    }
+    println!("{calls} random calls run by the Rust, {stretches} stretches, {wrong} lists not as they should be");
+    wrong == 0
 }
