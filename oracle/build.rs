@@ -25,7 +25,7 @@ const PROTO2: [Change; 5] = [
     (
         1,
         "/// tests (MAN-305 Phase 3/4).\n",
-        "/// tests (MAN-305 Phase 3/4).\n#[path = \"{HERE}/src/session.rs\"]\npub mod session;\n",
+        "/// tests (MAN-305 Phase 3/4).\n#[path = \"{HERE}/src/session/mod.rs\"]\npub mod session;\n",
     ),
 ];
 

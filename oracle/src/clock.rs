@@ -32,34 +32,15 @@ pub enum Asker {
 }
 use Asker::*;
 
-/// The function that a line stands in.
-fn function(lines: &[&str], at: usize) -> &'static str {
-    const NAMES: [&str; 9] = [
-        "open",
-        "read",
-        "fill_queue",
-        "send_keepalive_if_due",
-        "tick_attenuation",
-        "apply_step",
-        "handle_status",
-        "handle_iq",
-        "restart_outage",
-    ];
-    let name = |line: &str| {
-        let (_, rest) = line.split_once("fn ")?;
-        line.trim_start()
-            .starts_with(['f', 'p'])
-            .then(|| rest.split('(').next().unwrap().to_string())
+/// The name of the function that a line stands in.
+fn function<'a>(lines: &[&'a str], at: usize) -> &'a str {
+    let name = |line: &&'a str| {
+        let begins = ["fn ", "pub fn "]
+            .iter()
+            .find_map(|f| line.trim_start().strip_prefix(f));
+        begins?.split('(').next()
     };
-    let found = lines[..=at]
-        .iter()
-        .rev()
-        .find_map(|line| name(line))
-        .unwrap();
-    NAMES
-        .into_iter()
-        .find(|n| *n == found)
-        .unwrap_or_else(|| panic!("{found} asks the clock"))
+    lines[..=at].iter().rev().find_map(name).unwrap()
 }
 
 /// Who asks at a line of mod.rs.
@@ -76,7 +57,8 @@ fn at_line(lines: &[&str], at: usize) -> Asker {
         ("apply_step", _) => Step,
         ("handle_status", _) => Status,
         ("handle_iq", _) => Valid,
-        _ => Restart,
+        ("restart_outage", _) => Restart,
+        (other, _) => panic!("{other} asks the clock"),
     }
 }
 

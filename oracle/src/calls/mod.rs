@@ -2,6 +2,7 @@
 pub mod account;
 pub mod answer;
 pub mod call;
+pub mod feed;
 pub mod list;
 pub mod parse;
 pub mod write;

@@ -1,10 +1,12 @@
 //! Random lists of calls from a seed, within 01's domain, that aim at the edges (docs/CALLS.md, lists/README.md).
+mod arrivals;
 mod feed;
 mod settings;
 
 use crate::calls::call::{Call, Settings};
 use crate::calls::{list, parse};
-use crate::hpsdr::proto2::session::{self, End, Limits, Session};
+use crate::hpsdr::proto2::session::aims::{seen, Limits};
+use crate::hpsdr::proto2::session::{self, End, Session};
 use crate::random::Random;
 use feed::RandomFeed;
 use settings::{Theme, MS, S, THEMES};
@@ -42,7 +44,7 @@ impl<W: Write> Maker<W> {
     /// How a read ended.
     fn read(&mut self) -> End {
         let mut feed = self.feed.borrow_mut();
-        feed.seen = session::seen(&self.session);
+        feed.seen = seen(&self.session);
         let (theme, now, taken) = (feed.theme, feed.now, feed.seen.taken);
         let at = pause(&mut feed.random, theme, now, taken);
         feed.now = at;
@@ -83,27 +85,30 @@ impl<W: Write> Maker<W> {
     }
 }
 
-fn make_session(r: &mut Random, most: u64, out: &mut impl Write) -> u64 {
-    let theme = r.one_of(&THEMES);
-    let settings = settings::accepted(r, theme);
-    let session = session::open(&settings).unwrap_or_else(|n| panic!("refused {n}"));
-    let feed = RandomFeed {
+fn feed(r: &mut Random, session: &Session, theme: Theme, most: u64) -> RandomFeed {
+    let settings = session.settings().clone();
+    RandomFeed {
         random: Random::new(r.any()),
         theme,
         now: settings.at,
         left: r.from_to(20, 600).min(most),
-        seen: session::seen(&session),
+        seen: seen(session),
         limits: Limits::new(&settings),
         begun: settings.at,
         places: 476,
         ahead: VecDeque::new(),
         run: None,
-        settings: settings.clone(),
-    };
-    let feed = Rc::new(RefCell::new(feed));
+        settings,
+    }
+}
+
+fn make_session(r: &mut Random, most: u64, out: &mut impl Write) -> u64 {
+    let theme = r.one_of(&THEMES);
+    let settings = settings::accepted(r, theme);
+    let session = session::open(&settings).unwrap_or_else(|n| panic!("refused {n}"));
     let mut maker = Maker {
+        feed: Rc::new(RefCell::new(feed(r, &session, theme, most))),
         session,
-        feed,
         made: 0,
         out,
     };

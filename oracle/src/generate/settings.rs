@@ -101,10 +101,41 @@ pub fn accepted(r: &mut Random, theme: Theme) -> Settings {
     }
 }
 
+fn beside(x: f64, by: i64) -> f64 {
+    f64::from_bits(x.to_bits().wrapping_add_signed(by))
+}
+
+fn any_rate(r: &mut Random) -> f64 {
+    let rate = r.one_of(&[48000.0, 96000.0, 192000.0, 384000.0]);
+    let others = [47999.0, f64::NAN, f64::INFINITY, -rate, 0.0];
+    match r.percent(30) {
+        true => beside(rate, r.one_of(&[1, -1])),
+        false => r.one_of(&others),
+    }
+}
+
+fn any_centre(r: &mut Random) -> f64 {
+    r.one_of(&[
+        -0.0,
+        0.0,
+        0.5,
+        7_000_000.5,
+        -1.0,
+        f64::NAN,
+        f64::INFINITY,
+        f64::NEG_INFINITY,
+        f64::MIN_POSITIVE,
+        61_439_999.0,
+        beside(61_440_000.0, -1),
+        61_440_000.0,
+        61_440_001.0,
+        1e300,
+    ])
+}
+
 /// Settings of which each is wrong now and then, or just not.
 pub fn any(r: &mut Random) -> Settings {
     let mut s = accepted(r, Theme::Stream);
-    let beside = |x: f64, by: i64| f64::from_bits((x.to_bits() as i64 + by) as u64);
     if r.percent(20) {
         s.receivers = r.one_of(&[0, 2, 65535]);
     }
@@ -112,34 +143,10 @@ pub fn any(r: &mut Random) -> Settings {
         s.centres = r.one_of(&[0, 2]);
     }
     if r.percent(30) {
-        let rate = r.one_of(&[48000.0, 96000.0, 192000.0, 384000.0]);
-        s.rate = r.one_of(&[
-            47999.0,
-            beside(rate, 1),
-            beside(rate, -1),
-            f64::NAN,
-            f64::INFINITY,
-            -rate,
-            0.0,
-        ]);
+        s.rate = any_rate(r);
     }
     if r.percent(30) {
-        s.centre = r.one_of(&[
-            -0.0,
-            0.0,
-            0.5,
-            7_000_000.5,
-            -1.0,
-            f64::NAN,
-            f64::INFINITY,
-            f64::NEG_INFINITY,
-            f64::MIN_POSITIVE,
-            61_439_999.0,
-            beside(61_440_000.0, -1),
-            61_440_000.0,
-            61_440_001.0,
-            1e300,
-        ]);
+        s.centre = any_centre(r);
     }
     if r.percent(30) {
         s.port = r.one_of(&[65524, 65525, 65535]);

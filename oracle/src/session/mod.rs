@@ -2,10 +2,10 @@
 use super::*;
 use crate::calls::call::{Call, Settings};
 use crate::script::{self, Feed, Made, Problem, Script, Stop};
-use std::fmt::Debug;
 
-#[path = "arithmetic.rs"]
+pub mod aims;
 pub mod arithmetic;
+pub mod state;
 
 pub struct Session {
     source: Protocol2IqSource,
@@ -202,138 +202,5 @@ impl Session {
             source, settings, ..
         } = self;
         alone(&settings, call, || drop(source)).1
-    }
-}
-
-/// A field of what can only be read as debug text: `Some(x)` as x, `None` as none.
-fn field(value: &impl Debug, name: &str) -> String {
-    let text = format!("{value:?}");
-    let (_, rest) = text.split_once(&format!(" {name}: ")).unwrap();
-    let word = rest.split([',', ' ']).next().unwrap();
-    match word.strip_prefix("Some(") {
-        Some(x) => x.trim_end_matches(')').to_string(),
-        None => word.to_lowercase(),
-    }
-}
-
-fn yes(debug: String) -> &'static str {
-    match debug.as_str() {
-        "true" => "yes",
-        "false" => "no",
-        _ => panic!("{debug}"),
-    }
-}
-
-fn or_none<T: Debug>(x: Option<T>) -> String {
-    x.map_or("none".into(), |x| format!("{x:?}"))
-}
-
-/// What the session holds, as docs/CALLS.md has it.
-pub fn state(s: &Session) -> String {
-    let s = &s.source;
-    let window = s
-        .parked
-        .map(|p| format!("{:?} {} {}", p.from, p.accounted, p.left));
-    let [general, rx, tx, high] = s.seq;
-    let attenuation = s.attenuation.as_ref().map(|a| {
-        let c = &a.controller;
-        let times = ["run_start", "last_overload", "quiet_since"].map(|name| field(c, name));
-        format!(
-            "{} run {} overload {} quiet {}",
-            c.db(),
-            times[0],
-            times[1],
-            times[2]
-        )
-    });
-    format!(
-        "state expected {} stale {} waiting {} anchor {} valid {:?} accepted {:?} taken {:?} window {} missing {} \
-         discontinuity {} malformed {} delivering {} stalled {} counts {general} {rx} {tx} {high} clocks {:?} {:?} {:?} \
-         attenuation {}",
-        field(&s.tracker, "expected"),
-        field(&s.tracker, "stale_run"),
-        s.queue.len() - s.queue_pos,
-        or_none(s.wait_entered),
-        s.last_valid_iq,
-        s.last_accepted_iq,
-        s.read_returned,
-        window.unwrap_or("none".into()),
-        or_none(s.pending_missing),
-        or_none(s.pending_discontinuity),
-        s.consecutive_malformed,
-        yes(field(&s.stall, "delivering")),
-        yes(field(&s.stall, "pending")),
-        s.last_general,
-        s.last_rx_tx_specific,
-        s.last_high_priority,
-        attenuation.unwrap_or("off".into()),
-    )
-}
-
-/// What a generator of calls aims at.
-pub struct Seen {
-    pub expected: Option<u32>,
-    pub valid: u64,
-    pub taken: u64,
-    pub anchor: Option<u64>,
-    pub waiting: u64,
-    pub in_window: bool,
-    /// General, receive and transmit, high priority.
-    pub clocks: [u64; 3],
-    pub overload: Option<u64>,
-    pub run: Option<u64>,
-    pub quiet: Option<u64>,
-}
-
-pub fn seen(s: &Session) -> Seen {
-    let s = &s.source;
-    let number = |text: String| text.parse::<u64>().ok();
-    let time = |name| {
-        s.attenuation
-            .as_ref()
-            .and_then(|a| number(field(&a.controller, name)))
-    };
-    Seen {
-        expected: number(field(&s.tracker, "expected")).map(|e| e as u32),
-        valid: s.last_valid_iq.reading(),
-        taken: s.read_returned.reading(),
-        anchor: s.wait_entered.map(Instant::reading),
-        waiting: (s.queue.len() - s.queue_pos) as u64,
-        in_window: s.parked.is_some(),
-        clocks: [s.last_general, s.last_rx_tx_specific, s.last_high_priority].map(Instant::reading),
-        overload: time("last_overload"),
-        run: time("run_start"),
-        quiet: time("quiet_since"),
-    }
-}
-
-/// The Rust's own judgement of a gap, in a session that is kept beside the one that runs.
-pub struct Limits(Session);
-
-impl Limits {
-    pub fn new(s: &Settings) -> Self {
-        Self(open(s).unwrap_or_else(|n| panic!("refused {n}")))
-    }
-
-    /// As the other session stands when a read begins.
-    pub fn follow(&mut self, s: &Session, begin: u64) {
-        let mine = &mut self.0.source;
-        mine.last_accepted_iq = s.source.last_accepted_iq;
-        mine.parked = s.source.parked;
-        let from = s.source.read_returned;
-        if mine.parked.is_none() && Instant::at(begin).duration_since(from) >= PARKED_AFTER {
-            let left = s.source.park_window;
-            mine.parked = Some(Parked {
-                from,
-                accounted: 0,
-                left,
-            });
-        }
-    }
-
-    /// The most datagrams that can have been lost before an arrival.
-    pub fn limit(&self, at: u64) -> u64 {
-        let source = &self.0.source;
-        plausible_lost_datagrams(source.unaccounted(Instant::at(at)), source.sample_rate_hz)
     }
 }
