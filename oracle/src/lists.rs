@@ -1,5 +1,5 @@
 //! The lists of a folder, run through the Rust: each NAME.calls has its answers beside it, in NAME.answers.
-use crate::calls::list;
+use crate::calls::list::{self, Ran};
 use crate::generate;
 use std::path::{Path, PathBuf};
 
@@ -11,11 +11,10 @@ fn lists(folder: &str) -> Vec<PathBuf> {
     paths
 }
 
-/// The answers to a list, and how many calls were answered.
-fn answered(path: &Path) -> (String, usize) {
+fn answered(path: &Path) -> (String, Ran) {
     let mut answers = vec![];
     let ran = list::run(&crate::text(path), &mut answers);
-    (String::from_utf8(answers).unwrap(), ran.calls)
+    (String::from_utf8(answers).unwrap(), ran)
 }
 
 /// The first line in which the two differ.
@@ -48,27 +47,35 @@ pub fn write(folder: &str) {
     }
 }
 
-/// Whether every list is answered as its file has it.
+/// What is wrong with a list, if anything is, and how many calls were answered.
+fn judged(path: &Path) -> (Option<String>, usize) {
+    let (came, ran) = answered(path);
+    let expected = crate::text(path.with_extension("answers"));
+    let wrong = match difference(&expected, &came) {
+        Some(line) => {
+            let now = came.lines().nth(line - 1).unwrap_or("none");
+            Some(format!("answer {line} is now: {now}"))
+        }
+        None if ran.uneven > 0 => Some("the account doesn't add up".into()),
+        None if !is_as_made(&crate::text(path)) => Some("not what its seed gives".into()),
+        None => None,
+    };
+    (wrong, ran.calls)
+}
+
+/// Whether every list is answered as its file has it, with accounts that add up as demand 3 says.
 pub fn check(folder: &str) -> bool {
     let (mut calls, mut differ) = (0, 0);
     let paths = lists(folder);
     for path in &paths {
-        let (came, n) = answered(path);
+        let (wrong, n) = judged(path);
         calls += n;
-        if !is_as_made(&crate::text(path)) {
+        if let Some(wrong) = wrong {
             differ += 1;
-            println!("{}: not what its seed gives", path.display());
-        }
-        if let Some(line) = difference(&crate::text(&path.with_extension("answers")), &came) {
-            differ += 1;
-            let at = line - 1;
-            let came = came.lines().nth(at).unwrap_or("no answer");
-            println!("{}: answer {line} is now: {came}", path.display());
+            println!("{}: {wrong}", path.display());
         }
     }
-    println!(
-        "{} lists with {calls} calls run by the Rust, {differ} differ",
-        paths.len()
-    );
-    differ == 0 && !paths.is_empty()
+    let lists = paths.len();
+    println!("{lists} lists with {calls} calls run by the Rust, {differ} differ");
+    differ == 0 && lists > 0
 }

@@ -1,4 +1,5 @@
 //! A list of calls, as values (docs/CALLS.md).
+use crate::hpsdr::proto2::session;
 use std::net::{Ipv4Addr, Ipv6Addr, SocketAddr, SocketAddrV4};
 
 #[derive(Debug, Clone, PartialEq)]
@@ -33,10 +34,10 @@ impl Default for Settings {
             radio: Ipv4Addr::new(10, 0, 0, 2),
             board: Some(1),
             attenuation: None,
-            soft: 4_500_000_000,
-            hard: 10_000_000_000,
-            window: 8192,
-            malformed: 10_000,
+            soft: session::SOFT,
+            hard: session::HARD,
+            window: session::WINDOW,
+            malformed: session::MALFORMED,
         }
     }
 }

@@ -14,6 +14,12 @@ pub struct Session {
     ahead: VecDeque<u32>,
 }
 
+/// The Rust's own stall times, window and malformed limit.
+pub const SOFT: u64 = SOFT_STALL_AFTER.as_nanos() as u64;
+pub const HARD: u64 = STALL_AFTER.as_nanos() as u64;
+pub const WINDOW: u64 = MAX_BUFFERED_DATAGRAMS;
+pub const MALFORMED: u32 = MAX_CONSECUTIVE_MALFORMED;
+
 /// How a read ended.
 #[derive(Debug, Clone, PartialEq)]
 pub enum End {
