@@ -1,7 +1,7 @@
 //! What arrives: kinds of datagrams, and the numbers of I/Q about the edges.
 use crate::calls::call::{Arrival, Datagram, Iq, Waiting};
 use crate::generate::feed::RandomFeed;
-use crate::generate::settings::{Theme, MS};
+use crate::generate::settings::{Theme, MS, S};
 
 #[derive(Debug, Clone, Copy, PartialEq, Eq)]
 pub enum Kind {
@@ -49,10 +49,25 @@ fn ranges(numbers: impl IntoIterator<Item = u32>) -> Waiting {
 }
 
 impl RandomFeed {
-    /// An arrival now.
-    fn made(&mut self, datagram: Datagram, waiting: Waiting) -> Arrival {
+    /// When an arrival of now is handled: in a window, about where a restart's missing rounds up, or a second later.
+    fn later(&mut self) -> u64 {
         let at = self.now;
-        let later = at + self.random.one_of(&[0, 0, 0, 1, 1000, MS, 40 * MS]);
+        if self.theme == Theme::Pauses && self.random.percent(30) {
+            let half = self.limits.half_sample(at);
+            return self.random.about(half).max(at);
+        }
+        let long = [0, 0, 0, 1, 1000, MS, 40 * MS, S];
+        let choices = if self.theme == Theme::Pauses {
+            &long
+        } else {
+            &long[..7]
+        };
+        at + self.random.one_of(choices)
+    }
+
+    /// An arrival now, handled then.
+    fn made(&mut self, datagram: Datagram, waiting: Waiting, later: u64) -> Arrival {
+        let at = self.now;
         self.now = later;
         Arrival {
             at,
@@ -63,13 +78,20 @@ impl RandomFeed {
         }
     }
 
+    fn alone(&mut self, datagram: Datagram) -> Arrival {
+        let later = self.later();
+        self.made(datagram, Waiting::default(), later)
+    }
+
     pub fn iq(&mut self, number: u32) -> Arrival {
-        let waiting = self.waiting(number);
-        self.made(Datagram::Iq(Iq::valid(number)), waiting)
+        let later = self.later();
+        let waiting = self.waiting(number, later);
+        self.made(Datagram::Iq(Iq::valid(number)), waiting, later)
     }
 
     /// Numbers that may wait behind one, after those that were received ahead.
-    fn waiting(&mut self, n: u32) -> Waiting {
+    fn waiting(&mut self, n: u32, later: u64) -> Waiting {
+        let limit = self.limits.walk_limit(self.now, later);
         let ahead: Vec<u32> = self.ahead.iter().copied().collect();
         let r = &mut self.random;
         if ahead.is_empty() && r.percent(if self.theme == Theme::Pauses { 20 } else { 80 }) {
@@ -77,7 +99,7 @@ impl RandomFeed {
         }
         let next = |k: u64| n.wrapping_add(k as u32);
         let few = r.from_to(1, 12);
-        let new: Vec<u32> = match r.below(12) {
+        let new: Vec<u32> = match r.below(13) {
             0..=2 => vec![],
             3..=5 => (1..=few).map(next).collect(),
             6 => (1..=few).chain(few + 4..few + 9).map(next).collect(),
@@ -91,13 +113,9 @@ impl RandomFeed {
             ]
             .into(),
             8 => [next(1), 0, 1, 2, next(2)].into(),
-            9 => [
-                next(1),
-                next(8192 + few),
-                next(1 << 30),
-                next((1 << 30) + 1),
-            ]
-            .into(),
+            9 => [next(1), next(1 << 30), next((1 << 30) + 1)].into(),
+            // the walk's limit, where the number after this one is expected
+            11 => [next(1 + limit + r.below(2)), next(1 << 29)].into(),
             10 => (0..few).map(|_| r.any() as u32).collect(),
             _ if r.percent(15) && ahead.is_empty() => (1..=8192).map(next).collect(),
             _ => (1..=r.from_to(50, 400)).map(next).collect(),
@@ -136,7 +154,7 @@ impl RandomFeed {
             _ => Datagram::Any(Some(radio), port + 11, vec![0; r.below(40) as usize]),
         };
         // of 65524 a port 12 above can't be written: it is then the I/Q port, and the datagram too short
-        self.made(datagram, Waiting::default())
+        self.alone(datagram)
     }
 
     fn ignored(&mut self) -> Arrival {
@@ -151,12 +169,12 @@ impl RandomFeed {
                 vec![7; r.below(9) as usize],
             ),
         };
-        self.made(datagram, Waiting::default())
+        self.alone(datagram)
     }
 
     fn status(&mut self) -> Arrival {
         let octet = self.random.one_of(&[0, 0, 2, 254]);
-        self.made(Datagram::Status(octet), Waiting::default())
+        self.alone(Datagram::Status(octet))
     }
 
     /// The times that it moves are aimed at next.
@@ -168,7 +186,7 @@ impl RandomFeed {
         s.overload = Some(at);
         s.quiet = Some(at);
         let octet = self.random.one_of(&[1, 1, 3, 255]);
-        self.made(Datagram::Status(octet), Waiting::default())
+        self.alone(Datagram::Status(octet))
     }
 
     /// The number of an arrival of a kind, where e is expected.

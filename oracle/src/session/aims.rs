@@ -63,4 +63,27 @@ impl Limits {
         let source = &self.0.source;
         plausible_lost_datagrams(source.unaccounted(Instant::at(at)), source.sample_rate_hz)
     }
+
+    /// In a window, the time that a restart which arrived at a reading is judged by at a later one, less nothing waiting.
+    fn bound(&mut self, at: u64, later: u64) -> Duration {
+        let source = &mut self.0.source;
+        let last = std::mem::replace(&mut source.last_accepted_iq, Instant::at(at));
+        let bound = source.unaccounted(Instant::at(later));
+        source.last_accepted_iq = last;
+        bound
+    }
+
+    /// The most datagrams that a walk over the numbers waiting behind it takes as lost at once.
+    pub fn walk_limit(&mut self, at: u64, later: u64) -> u64 {
+        let bound = self.bound(at, later);
+        plausible_lost_datagrams(bound, self.0.source.sample_rate_hz)
+    }
+
+    /// The first later reading at which that time has a further half sample.
+    pub fn half_sample(&mut self, at: u64) -> u64 {
+        let rate = self.0.source.sample_rate_hz;
+        let bound = self.bound(at, at).as_nanos() as u64;
+        let samples = (bound as f64 / 1e9 * rate).ceil() + 0.5;
+        at + ((samples / rate * 1e9).ceil() as u64).saturating_sub(bound)
+    }
 }
