@@ -1,5 +1,5 @@
 //! Lists that go wrong: lines that can't be read (lists/errors.txt), and what the Rust can't be asked (no_counterpart.txt).
-use crate::calls::list;
+use crate::calls::{list, parse};
 
 fn told(list: &str) -> String {
     let mut out = vec![];
@@ -38,4 +38,36 @@ pub fn lists(text: &str) -> bool {
         let list = list.replace("; ", "\n");
         told(&list).lines().last() == Some(&format!("error line {end}"))
     })
+}
+
+/// A session of so many stretches, and a comment so long that its line has so many octets.
+fn of(stretches: usize, octets: usize) -> String {
+    let read = |n: usize| format!("begin 0\npass 0\niq 0 0 {}\ntake 0 476\n", n * 100_000);
+    let reads: String = (1..=stretches).map(read).collect();
+    format!("open\n{reads}#{}\nstate\n", "-".repeat(octets - 1))
+}
+
+/// What is too long: on either side of each limit.
+pub fn limits() -> bool {
+    let (most, line) = (parse::STRETCHES, parse::LINE);
+    let end = |stretches, octets| {
+        told(&of(stretches, octets))
+            .lines()
+            .last()
+            .unwrap()
+            .to_string()
+    };
+    let fine = end(most, line).starts_with("counters");
+    let wide = format!("error line {}: expected a shorter line", 4 * most + 2);
+    let many = format!("error line {}: expected fewer stretches", 4 * most + 4);
+    let told = fine && end(most, line + 1) == wide && end(most + 1, line) == many;
+    println!(
+        "lists at their limits, {}",
+        if told {
+            "told as they should be"
+        } else {
+            "not told so"
+        }
+    );
+    told
 }

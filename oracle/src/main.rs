@@ -39,7 +39,9 @@ fn check(top: &str) -> bool {
     let errors = errors::lines(&text(format!("{top}/lists/errors.txt")));
     let outside = errors::lists(&text(format!("{top}/oracle/no_counterpart.txt")));
     let lists = lists::check(&format!("{top}/lists"));
-    cases && errors && outside && lists && generate::check()
+    let limits = errors::limits();
+    let random = generate::check();
+    cases && errors && outside && lists && limits && random
 }
 
 fn calls(file: &str) -> bool {
