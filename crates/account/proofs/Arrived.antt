@@ -1,0 +1,295 @@
+-- An arrival: the session tells what the book judges, and the two go on saying the same. Assumes nothing.
+use Prim.Native.Nat.{ℕ, _+_, _-_, _*_, _%_}
+use mathlib.Core.Path.{_≡_, refl, sym, _∙_, ap, subst}
+use mathlib.Core.Bool.{Bool, true, false}
+use mathlib.Core.List.{List, [], _∷_, append-nil}
+use mathlib.Core.Option.{Option, some, none}
+use native.Mathlib.Omega.{arith}
+use lib.Dec.{ltb}
+use borrow.Author.Tests.{ltb-false}
+use Rattle.octets.proofs.Picks.{pick-either}
+use Rattle.double.specs.Stream.{jumpLimit, restartMissing}
+use Rattle.wire.specs.Answer.{Told, gives, refused}
+use Rattle.wire.specs.Sequence.{after, observed}
+use Rattle.wire.specs.declared.sequence.SeqEvent.{SeqEvent}
+use Rattle.wire.specs.declared.sequence.SeqEvent.the-variants.{InOrder, Gap, Stale, Restart}
+use Rattle.account.specs.Answer.{Answer, done, heard}
+use Rattle.account.specs.Answer as Answer
+use Rattle.account.specs.Parts.{with-common, with-last-reading}
+use Rattle.attenuator.specs.Controller as Controller
+use Rattle.wire.specs.Status.{overloaded, overloadTold}
+use Rattle.account.specs.declared.session.Attenuation.{Attenuation}
+use Rattle.account.specs.declared.session.Attenuation.the-variants.{Off, On}
+use Rattle.account.specs.declared.session.Common.{Common}
+use Rattle.account.specs.declared.session.Session.{Session}
+use Rattle.account.specs.Rules.{used, elapsed, capped, outage, missingOf, expecting, isStale}
+use Rattle.account.specs.Routing.{Routed, iq, status, ignored, malformed, routed}
+use Rattle.account.specs.Host.{Incoming, Arrival, Step}
+use Rattle.account.specs.State.{State, left, waits, waitingIn, replied, keeping}
+use Rattle.account.specs.Sample.{pairs}
+use Rattle.wire.specs.Iq as Iq
+use Rattle.account.specs.Arrival.{eventOf, restartOf, leftOut, accepted, told, heardCommon, hear, heardAs, heardIq, overload, heardStatus, heardMalformed, arrived, atReading, route, arrival}
+use Rattle.account.specs.Whole.{fits, fitsBelow, verdict}
+use Rattle.account.specs.Book.{Quiet, Came, brought, news, Book, fitIn, belowIn, limitIn, restartIn, missingIn, missing, judged}
+use Rattle.account.specs.Ledger.{Tells, tells, Entry, samplesOf}
+use Rattle.account.specs.Ledger as Ledger
+use Rattle.account.specs.Demand3.{Each, NearIn, Lies}
+use Rattle.account.specs.Exact.{verdictIn, Exact}
+use Rattle.account.specs.declared.settings.Settings.{Settings}
+use Rattle.account.proofs.Numbers.{next}
+use Rattle.account.proofs.Verdict.{Says, says, Rules, rules, stale-is}
+use Rattle.account.proofs.Stretches.{Lost, Right, judged-of}
+use Rattle.account.proofs.Pairs.{datagram-size, datagram-samples, none-past}
+use Rattle.account.proofs.Same.{sentAs, waitingOf, Same, Keeps, Kept, refused-keeps, Untold, untold-keeps, like}
+use Rattle.account.proofs.Sends.{stepped-steady}
+use Rattle.account.proofs.Observes.{tells-in, accepted-tracker, stale-tracker}
+
+-- ---- what an arrival misses
+
+missing-of : (e n restart : ℕ) (ev : SeqEvent) (f b : Bool) → Says e n ev f b → missingOf ev restart ≡ missingIn (some e) f restart n
+unfolding missingOf
+missing-of e n restart InOrder f b s = rw (s .1) (omega (arith, s .0))
+missing-of e n restart (Gap k) f b s = rw (s .1) (omega (arith, s .0))
+missing-of e n restart Stale f b s = rw (s .1) (omega (arith, s .0))
+missing-of e n restart Restart f b s = rw (s .1) refl
+
+-- what the session tells missing is what the book says
+missing-in : (o : Option ℕ) (lim run n restart : ℕ) → missingOf (verdictIn o lim run n) restart ≡ missingIn o (fitIn o lim run n) restart n
+unfolding missingOf
+missing-in none lim run n restart = refl
+missing-in (some e) lim run n restart = missing-of e n restart (verdict lim run e n) (fits lim run e n) (fitsBelow run e n) (says lim run e n)
+
+lost-of : (ev : SeqEvent) (restart : ℕ) → Lost ev (missingOf ev restart)
+unfolding missingOf
+lost-of InOrder restart = refl
+lost-of (Gap k) restart = refl
+lost-of Stale restart = refl
+lost-of Restart restart = tt
+
+stale-misses-none : (ev : SeqEvent) (restart : ℕ) → isStale ev ≡ true → missingOf ev restart ≡ 0
+unfolding missingOf
+stale-misses-none Stale restart h = refl
+stale-misses-none InOrder restart h = refl
+stale-misses-none (Gap k) restart h = let z : _≡_ {A = ℕ} 0 1 = cc in absurd (omega arith)
+stale-misses-none Restart restart h = let z : _≡_ {A = ℕ} 0 1 = cc in absurd (omega arith)
+
+-- one more stale
+one-more : (o : Option ℕ) (run : ℕ) → _≡_ {A = Rattle.wire.specs.declared.sequence.SeqTracker.SeqTracker} (record { expected = (sentAs o run) .expected; «stale_run» = (sentAs o run) .«stale_run» + 1 }) (sentAs o (run + 1))
+one-more none run = refl
+one-more (some e) run = refl
+
+-- ---- a valid I/Q datagram
+
+module _ (s : Settings) (b : Book) (st : State) (n : ℕ) (h : Same s b st) (i : Incoming) (d : List ℕ) (empty : waitingOf st ≡ []) where
+  abbrev ev : SeqEvent
+  ev = verdictIn (b .expected) (limitIn s b (i .now)) (b .run) n
+
+  abbrev the : Answer → ℕ → Entry
+  the a count = record { book = b; incoming = i; count = count; number = n; says = tells a }
+
+  -- the entry's own part of what is kept
+  pub record Enters (count : ℕ) (x : Step State) : Type 0 where
+    pub same : Same s (judged s b i n) (x .state)
+    pub right : Right s (the (x .reply .answer) count)
+    pub exact : Exact s b (Came i count) n (tells (x .reply .answer))
+    pub flow : waitingOf (x .state) ≡ samplesOf (Ledger.accepted (the (x .reply .answer) count ∷ []))
+    pub answered : (tells (x .reply .answer)) .refusal ≡ false
+
+  ruled : Rules ev (fitIn (b .expected) (limitIn s b (i .now)) (b .run) n) (belowIn (b .expected) (b .run) n)
+  ruled = rules (b .expected) (limitIn s b (i .now)) (b .run) n
+
+  late-is : isStale ev ≡ belowIn (b .expected) (b .run) n
+  late-is = stale-is ev _ _ ruled
+
+  module _ (m : ℕ) (told : m ≡ missingOf ev (restartIn s b i n)) (count : ℕ) where
+    right-of : Right s (the (heard ev m) count)
+    right-of =
+        record {
+          told = judged-of s (the (heard ev m) count) refl;
+          gone = rw told (lost-of ev (restartIn s b i n));
+          whole = datagram-samples (i .octets);
+        }
+
+    exact-of : Exact s b (Came i count) n (tells (heard ev m))
+    exact-of = (refl, told ∙ missing-in (b .expected) (limitIn s b (i .now)) (b .run) n (restartIn s b i n))
+
+  -- the session's event is the book's
+  event-is : NearIn (b .expected) n → eventOf (s .«sample_rate_hz») (st .session .receiver) (i .now) (n % 0x1_0000_0000) ≡ ev
+  unfolding eventOf
+  event-is near = rw (h .accepted, h .window, h .tracker) (tells-in (b .expected) (limitIn s b (i .now)) (b .run) n near)
+
+  -- and so is a restart's figure
+  restart-is : restartOf (s .«sample_rate_hz») (st .session .receiver) i (n % 0x1_0000_0000) ≡ restartIn s b i n
+  unfolding restartOf
+  restart-is = rw (h .accepted, h .window, next n) refl
+
+  abbrev count : ℕ
+  count = n % 0x1_0000_0000
+
+  abbrev seen : SeqEvent
+  seen = capped (limitIn s b (i .now)) (observed (st .session .receiver .tracker) count .event)
+
+  module _ (near : NearIn (b .expected) n) where
+    seen-is : seen ≡ ev
+    seen-is = rw (h .tracker) (tells-in (b .expected) (limitIn s b (i .now)) (b .run) n near)
+
+    -- accepted
+    taken-in : (m : ℕ) → m ≡ missingOf ev (restartIn s b i n) → isStale ev ≡ false →
+        Enters count (keeping (Iq.samplesOf (i .octets)) (told (heard ev m) d
+        (record { common = heardCommon ev (st .session .common); receiver = accepted (st .session .common .settings .«sample_rate_hz») (st .session .receiver) (i .now) count ev m })))
+    unfolding accepted waitingIn
+    taken-in m told f =
+        let below : belowIn (b .expected) (b .run) n ≡ false = sym late-is ∙ f in
+        record {
+          same =
+              rw below
+              (record {
+                settings = h .settings;
+                tracker =
+                    accepted-tracker (st .session .receiver .tracker) (limitIn s b (i .now)) count (ap isStale seen-is ∙ f)
+                    ∙ ap (λ (k : ℕ). expecting k) (next n);
+                accepted = refl;
+                taken = h .taken;
+                window = rw (h .window) (ap (λ (k : ℕ). used (b .window) k) (exact-of m told count .1));
+                size = datagram-size (i .octets);
+              });
+          right = right-of m told count;
+          exact = exact-of m told count;
+          flow = rw below (sym (append-nil (pairs (Iq.samplesOf (i .octets)))));
+          answered = refl;
+        }
+
+    -- stale
+    left-out : isStale ev ≡ true →
+        Enters count (keeping (st .samples) (told (heard ev 0) d (record { common = heardCommon ev (st .session .common); receiver = leftOut (st .session .receiver) (i .now) count })))
+    unfolding leftOut waitingIn
+    left-out t =
+        let below : belowIn (b .expected) (b .run) n ≡ true = sym late-is ∙ t in
+        let none-missing : 0 ≡ missingOf ev (restartIn s b i n) = sym (stale-misses-none ev (restartIn s b i n) t) in
+        record {
+          same =
+              rw below
+              (record {
+                settings = h .settings;
+                tracker =
+                    stale-tracker (st .session .receiver .tracker) (limitIn s b (i .now)) count (ap isStale seen-is ∙ t)
+                    ∙ rw (h .tracker) (one-more (b .expected) (b .run));
+                accepted = h .accepted;
+                taken = h .taken;
+                window = h .window;
+                size = h .size;
+              });
+          right = right-of 0 none-missing count;
+          exact = exact-of 0 none-missing count;
+          flow = rw below empty;
+          answered = refl;
+        }
+
+    hears : (m : ℕ) → m ≡ missingOf ev (restartIn s b i n) → Enters count (hear st i d count ev m)
+    unfolding hear
+    hears m told = pick-either (isStale ev) _ _ (Enters count) (λ t. left-out t) (λ f. taken-in m told f)
+
+    heard-as : Enters count (heardAs st i d count ev)
+    unfolding heardAs
+    heard-as =
+        hears _
+        (ap (λ (x : Settings). missingOf ev (restartOf (x .«sample_rate_hz») (st .session .receiver) i count)) (h .settings)
+        ∙ ap (λ (r : ℕ). missingOf ev r) restart-is)
+
+    enters : Enters count (heardIq st i d count)
+    unfolding heardIq
+    enters =
+        let e : eventOf (st .session .common .settings .«sample_rate_hz») (st .session .receiver) (i .now) count ≡ ev
+        = ap (λ (x : Settings). eventOf (x .«sample_rate_hz») (st .session .receiver) (i .now) count) (h .settings) ∙ event-is near in
+        subst (λ (v : SeqEvent). Enters count (heardAs st i d count v)) (sym e) heard-as
+
+  -- with the count that the datagram holds
+  pub enters-at : (k : ℕ) → count ≡ k → NearIn (b .expected) n → Enters k (heardIq st i d k)
+  enters-at k c near = subst (λ (j : ℕ). Enters j (heardIq st i d j)) c (enters near)
+
+-- ---- the arrival
+
+abbrev found : Settings → Incoming → Routed
+found s i = routed (s .«radio_ip») (s .port) (i .from) (i .octets)
+
+never-refused : (st : State) (i : Incoming) (d : List ℕ) (count : ℕ) → (tells (heardIq st i d count .reply .answer)) .refusal ≡ false
+unfolding heardIq heardAs hear
+never-refused st i d count = pick-either _ _ _ (λ (x : Step State). (tells (x .reply .answer)) .refusal ≡ false) (λ _. refl) (λ _. refl)
+
+module _ (s : Settings) (b : Book) (st : State) (n : ℕ) (h : Same s b st) (i : Incoming) (d : List ℕ) (empty : waitingOf st ≡ []) where
+  iq-keeps : (k : ℕ) → found s i ≡ iq k → Kept s b st (Arrival i d) n (heardIq st i d k)
+  iq-keeps k p lies =
+      let x = heardIq st i d k in
+      let w : news s (Arrival i d) ((tells (x .reply .answer)) .refusal) ≡ Came i k = rw (never-refused st i d k, p) refl in
+      let l : Each Lies (the s b st n h i d empty (x .reply .answer) k ∷ []) = rw w at lies in
+      let e : Enters s b st n h i d empty k x = enters-at s b st n h i d empty k (l .0 .0) (l .0 .1) in
+      record {
+        same = rw w (e .same);
+        right = rw w (e .right, tt);
+        also = rw w (e .exact);
+        flow = rw (w, empty) (e .flow);
+      }
+
+module _ (s : Settings) (b : Book) (st : State) (n : ℕ) (h : Same s b st) (i : Incoming) (d : List ℕ) (empty : waitingOf st ≡ []) where
+  abbrev Mute : Step Session → Type 0
+  Mute = Untold s b st n h
+
+  status-untold : (c : Common) (a : Attenuation) (bits : Told) → c .settings ≡ s → Mute (overload (with-common (st .session) c) i d a bits)
+  unfolding overload
+  status-untold c Off bits e = like s b st n h (done Answer.ignored) [] d c _ _ _ refl refl e
+  status-untold c (On controller) (gives []) e = like s b st n h (done Answer.ignored) [] d c _ _ _ refl refl e
+  status-untold c (On controller) (refused k vs) e = like s b st n h (done Answer.ignored) [] d c _ _ _ refl refl e
+  status-untold c (On controller) (gives (bits ∷ vs)) e =
+      like s b st n h (done Answer.status) _ _ _ _ _ _ refl refl (stepped-steady (i .later) (Controller.observed controller (overloaded bits) (i .now)) c ∙ e)
+
+  malformed-untold : (c : Common) → c .settings ≡ s → Mute (heardMalformed (with-common (st .session) c) d)
+  unfolding heardMalformed
+  malformed-untold c e =
+      pick-either _ _ _ Mute (λ _. like s b st n h (done Answer.malformedLimit) [] d _ _ _ _ refl refl e) λ _.
+      like s b st n h (done Answer.malformed) [] d _ _ _ _ refl refl e
+
+  abbrev later : State
+  later = atReading st (i .later)
+
+  same-later : Same s b later
+  same-later =
+      record { settings = h .settings; tracker = h .tracker; accepted = h .accepted; taken = h .taken; window = h .window; size = h .size }
+
+  quiet-of : (p : Routed) → found s i ≡ p → brought i p ≡ Quiet → (t : Bool) → news s (Arrival i d) t ≡ Quiet
+  quiet-of p e q true = refl
+  quiet-of p e q false = ap (brought i) e ∙ q
+
+  routed-keeps : (p : Routed) → found s i ≡ p → Kept s b st (Arrival i d) n (arrived later i d p)
+  unfolding arrived heardStatus
+  routed-keeps (iq k) e =
+      λ lies.
+      let x = iq-keeps s b later n same-later i d empty k e lies in
+      record { same = x .same; right = x .right; also = x .also; flow = x .flow }
+  routed-keeps status e = untold-keeps s b st n h (Arrival i d) _ (quiet-of status e refl) refl (status-untold _ _ _ (h .settings))
+  routed-keeps ignored e =
+      untold-keeps s b st n h (Arrival i d) _ (quiet-of ignored e refl) refl (like s b st n h (done Answer.ignored) [] d _ _ _ _ refl refl (h .settings))
+  routed-keeps malformed e = untold-keeps s b st n h (Arrival i d) _ (quiet-of malformed e refl) refl (malformed-untold _ (h .settings))
+
+  pub arrives : Kept s b st (Arrival i d) n (arrived later i d (route st i))
+  arrives = routed-keeps (route st i) (ap (λ (x : Settings). found x i) (sym (h .settings)))
+
+module _ (s : Settings) (b : Book) (st : State) (n : ℕ) (h : Same s b st) (i : Incoming) (d : List ℕ) where
+  nothing-waits : waits (st .session .receiver) ≡ false → waitingOf st ≡ []
+  unfolding waits left waitingIn
+  nothing-waits e =
+      let z = ltb-false 0 (238 - st .session .receiver .«queue_pos») e in
+      none-past (st .session .receiver .«queue_pos») (st .samples) (h .size) (omega arith)
+
+  abbrev Fine : Step State → Type 0
+  Fine = Kept s b st (Arrival i d) n
+
+  pub arrival-keeps : Fine (arrival st i d)
+  unfolding arrival
+  arrival-keeps =
+      pick-either _ _ _ Fine (λ _. refused-keeps s b st n h (Arrival i d) 10 d [] refl) λ _.
+      pick-either _ _ _ Fine (λ _. refused-keeps s b st n h (Arrival i d) 11 d [] refl) λ _.
+      pick-either _ _ _ Fine (λ _. refused-keeps s b st n h (Arrival i d) 12 d [] refl) λ none.
+      pick-either _ _ _ Fine (λ _. refused-keeps s b st n h (Arrival i d) 13 d [] refl) λ _.
+      pick-either _ _ _ Fine (λ _. refused-keeps s b st n h (Arrival i d) 14 d [] refl) λ _.
+      pick-either _ _ _ Fine (λ _. refused-keeps s b st n h (Arrival i d) 15 d [] refl) λ _.
+      arrives s b st n h i d (nothing-waits none)

@@ -1,0 +1,67 @@
+-- Demand 3 of the session that the definitions make: for all accepted settings, opening readings, lists of calls and numberings, and
+-- whatever 476 f32 are lent beside it at first. Assumes nothing.
+use Prim.Native.Nat.{ℕ}
+use mathlib.Core.Path.{_≡_, refl, sym, ap, _∙_}
+use mathlib.Core.Bool.{Bool, true, false}
+use mathlib.Core.List.{List, []}
+use lib.ListN.{length}
+use lib.Dec.{T}
+use lib.Ieee.{Float}
+use Rattle.octets.proofs.Picks.{pick-t}
+use Rattle.account.specs.Settings.{accepts}
+use Rattle.account.specs.Host.{Call, Begin, Pass, Arrival, Take, Close, TakeMissing, TakeDiscontinuity, TakeStalled}
+use Rattle.account.specs.State.{State, waitingIn}
+use Rattle.account.specs.Open.{freshCommon, freshReceiver, fresh, unopened, opened}
+use Rattle.account.specs.Session.{step, openedWith, session}
+use Rattle.account.specs.Book.{Book, blank}
+use Rattle.account.specs.Demand3.{Meets}
+use Rattle.account.specs.Exact.{Exact, TellsAll}
+use Rattle.account.specs.declared.session.Session.{Session}
+use Rattle.account.specs.declared.settings.Settings.{Settings}
+use Rattle.account.proofs.Pairs.{none-past}
+use Rattle.account.proofs.Simulate.{meets, all-lines}
+use Rattle.account.proofs.Same.{waitingOf, Same, Kept, begin-keeps, pass-keeps, take-keeps, close-keeps, missing-keeps, discontinuity-keeps, stalled-keeps}
+use Rattle.account.proofs.Arrived.{arrival-keeps}
+
+module _ (s : Settings) where
+  pub keeps : (b : Book) (st : State) (n : ℕ) → Same s b st → (c : Call) → Kept s b st c n (step st c)
+  unfolding step
+  keeps b st n h (Begin now) = begin-keeps s b st n h now
+  keeps b st n h (Pass now d) = pass-keeps s b st n h now d
+  keeps b st n h (Arrival i d) = arrival-keeps s b st n h i d
+  keeps b st n h (Take now buffer) = take-keeps s b st n h now buffer
+  keeps b st n h (Close d) = close-keeps s b st n h d
+  keeps b st n h TakeMissing = missing-keeps s b st n h
+  keeps b st n h TakeDiscontinuity = discontinuity-keeps s b st n h
+  keeps b st n h TakeStalled = stalled-keeps s b st n h
+
+is-true : (b : Bool) → T b → b ≡ true
+is-true true h = refl
+is-true false h = absurd h
+
+module _ (samples : List Float) (size : length samples ≡ 476) (s : Settings) (now : ℕ) (ok : T (accepts s)) where
+  opens : opened s now ≡ fresh s now
+  unfolding opened
+  opens = pick-t (accepts s) (fresh s now) unopened (is-true (accepts s) ok)
+
+  fresh-same : Same s (blank now) (record { session = fresh s now; samples = samples })
+  unfolding fresh freshCommon freshReceiver
+  fresh-same = record { settings = refl; tracker = refl; accepted = refl; taken = refl; window = refl; size = size }
+
+  at-first : Same s (blank now) (openedWith samples s now)
+  at-first = rw opens fresh-same
+
+  fresh-waits : waitingIn (fresh s now .receiver) samples ≡ []
+  unfolding waitingIn fresh freshReceiver
+  fresh-waits = none-past 238 samples size refl
+
+  none-waits : waitingOf (openedWith samples s now) ≡ []
+  none-waits = rw opens fresh-waits
+
+module _ (samples : List Float) (size : length samples ≡ 476) where
+  pub demand3 : Meets (session samples)
+  demand3 s now calls ok = meets s (session samples) (Same s) (Exact s) (keeps s) now (at-first samples size s now ok) (none-waits samples size s now ok) calls
+
+  -- and every answer is the book's
+  pub tells-all : TellsAll (session samples)
+  tells-all s now calls ok = all-lines s (session samples) (Same s) (Exact s) (keeps s) now (at-first samples size s now ok) (none-waits samples size s now ok) calls

@@ -1,0 +1,60 @@
+-- The tracker after an arrival, by what the arrival is told. Assumes nothing.
+use Prim.Native.Nat.{ℕ, _+_, _%_}
+use mathlib.Core.Path.{_≡_, refl, sym, ap, _∙_}
+use mathlib.Core.Bool.{Bool, true, false}
+use mathlib.Core.Option.{Option, some, none}
+use native.Mathlib.Omega.{arith}
+use lib.Dec.{leb}
+use Rattle.octets.proofs.Picks.{pick-either}
+use Rattle.wire.specs.Sequence.{after, less, meant, judged, moved, observed}
+use Rattle.wire.specs.declared.sequence.SeqEvent.{SeqEvent}
+use Rattle.wire.specs.declared.sequence.SeqEvent.the-variants.{InOrder, Gap, Stale, Restart}
+use Rattle.wire.specs.declared.sequence.SeqTracker.{SeqTracker}
+use Rattle.account.specs.Rules.{capped, expecting, isStale}
+use Rattle.account.specs.Demand3.{NearIn}
+use Rattle.account.specs.Exact.{verdictIn}
+use Rattle.account.proofs.Numbers.{verdict-told}
+use Rattle.account.proofs.Same.{sentAs}
+
+moved-event : (t : SeqTracker) (seq : ℕ) (ev : SeqEvent) → moved t seq ev .event ≡ ev
+moved-event t seq InOrder = refl
+moved-event t seq (Gap k) = refl
+moved-event t seq Stale = refl
+moved-event t seq Restart = refl
+
+-- the tracker, and the limit, tell the verdict
+pub tells-in : (o : Option ℕ) (lim run n : ℕ) → NearIn o n → capped lim (observed (sentAs o run) (n % 0x1_0000_0000) .event) ≡ verdictIn o lim run n
+unfolding observed capped
+tells-in none lim run n near = refl
+tells-in (some e) lim run n near =
+    ap (capped lim) (moved-event (sentAs (some e) run) (n % 0x1_0000_0000) (meant (less (n % 0x1_0000_0000) (e % 0x1_0000_0000)) run (n % 0x1_0000_0000)))
+    ∙ verdict-told lim run e n near
+
+module _ (t : SeqTracker) (lim seq : ℕ) where
+  gap-not-stale : (k : ℕ) → isStale (capped lim (Gap k)) ≡ false
+  unfolding capped
+  gap-not-stale k = pick-either (leb k lim) (Gap k) Restart (λ (v : SeqEvent). isStale v ≡ false) (λ _. refl) (λ _. refl)
+
+  moved-on : (ev : SeqEvent) → isStale (capped lim ev) ≡ false → moved t seq ev .tracker ≡ expecting (after seq)
+  unfolding capped
+  moved-on InOrder h = refl
+  moved-on (Gap k) h = refl
+  moved-on Restart h = refl
+  moved-on Stale h = let z : _≡_ {A = ℕ} 0 1 = cc in absurd (omega arith)
+
+  stays : (ev : SeqEvent) → isStale (capped lim ev) ≡ true → moved t seq ev .tracker ≡ record { expected = t .expected; «stale_run» = t .«stale_run» + 1 }
+  unfolding capped
+  stays Stale h = refl
+  stays InOrder h = let z : _≡_ {A = ℕ} 0 1 = cc in absurd (omega arith)
+  stays Restart h = let z : _≡_ {A = ℕ} 0 1 = cc in absurd (omega arith)
+  stays (Gap k) h = let g = gap-not-stale k in let z : _≡_ {A = ℕ} 0 1 = cc in absurd (omega arith)
+
+  -- an accepted arrival sets the expected number and empties the stale run
+  pub accepted-tracker : isStale (capped lim (observed t seq .event)) ≡ false → observed t seq .tracker ≡ expecting (after seq)
+  unfolding observed
+  accepted-tracker h = moved-on (judged (t .expected) (t .«stale_run») seq) (ap (λ (v : SeqEvent). isStale (capped lim v)) (sym (moved-event t seq (judged (t .expected) (t .«stale_run») seq))) ∙ h)
+
+  -- a stale one only adds one to the stale run
+  pub stale-tracker : isStale (capped lim (observed t seq .event)) ≡ true → observed t seq .tracker ≡ record { expected = t .expected; «stale_run» = t .«stale_run» + 1 }
+  unfolding observed
+  stale-tracker h = stays (judged (t .expected) (t .«stale_run») seq) (ap (λ (v : SeqEvent). isStale (capped lim v)) (sym (moved-event t seq (judged (t .expected) (t .«stale_run») seq))) ∙ h)

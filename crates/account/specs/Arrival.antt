@@ -1,0 +1,156 @@
+-- Arrival: malformed, ignored, status or valid I/Q. Definitions only.
+use Prim.Native.Nat.{ℕ, _+_, min}
+use mathlib.Core.Bool.{Bool, true, false}
+use mathlib.Core.List.{List, [], _∷_}
+use lib.ListN.{length}
+use lib.Dec.{ltb, leb}
+use lib.Ieee.{Float}
+use Rattle.octets.specs.Pick.{pick}
+use Rattle.double.specs.Stream.{jumpLimit, restartMissing}
+use Rattle.wire.specs.Answer.{Told, gives, refused}
+use Rattle.wire.specs.Iq.{samplesOf}
+use Rattle.wire.specs.Sequence.{after, observed}
+use Rattle.wire.specs.Status.{overloadTold, overloaded}
+use Rattle.wire.specs.declared.sequence.SeqEvent.{SeqEvent}
+use Rattle.wire.specs.declared.sequence.SeqEvent.the-variants.{InOrder, Gap, Stale, Restart}
+use Rattle.attenuator.specs.Controller as Controller
+use Rattle.health.specs.Counters.{countDropped, countGap, countMalformed}
+use Rattle.health.specs.declared.InputHealthCounters.{InputHealthCounters}
+use Rattle.account.specs.Answer.{Answer, done, heard, ignored, status, malformed, malformedLimit}
+use Rattle.account.specs.Rules.{used, elapsed, capped, outage, missingOf, pendingAfter, isStale}
+use Rattle.account.specs.Routing.{Routed, routed}
+use Rattle.account.specs.Routing as Routing
+use Rattle.account.specs.Host.{Incoming, Step}
+use Rattle.account.specs.State.{State, waits, notReading, fell, replied, refuse, keeping}
+use Rattle.account.specs.Sending.{stepped, wrote}
+use Rattle.account.specs.Pass.{shut}
+use Rattle.account.specs.Parts.{with-common, with-receiver, with-last-reading, with-consecutive-malformed, with-health, with-tracker, with-reading, with-last-valid-iq, with-wait-entered}
+use Rattle.account.specs.declared.receiver.Anchor.the-variants.{Unset}
+use Rattle.account.specs.declared.receiver.Receiver.{Receiver}
+use Rattle.account.specs.declared.session.Attenuation.{Attenuation}
+use Rattle.account.specs.declared.session.Attenuation.the-variants.{Off, On}
+use Rattle.account.specs.declared.session.Common.{Common}
+use Rattle.account.specs.declared.session.Session.{Session}
+
+-- ---- a receiver hears a valid I/Q datagram
+
+-- the event that is told: a gap over the jump limit is a restart
+unfoldable pub eventOf : Float → Receiver → ℕ → ℕ → SeqEvent
+eventOf rate r now count =
+    capped (jumpLimit (elapsed rate (r .«last_accepted_iq») (r .parked .window) now) rate) (observed (r .tracker) count .event)
+
+-- what it misses if it is a restart
+unfoldable pub restartOf : Float → Receiver → Incoming → ℕ → ℕ
+restartOf rate r i count =
+    restartMissing (outage rate (r .«last_accepted_iq») (r .parked .window) (i .now) (i .later) (after count) (i .waiting)) rate
+
+-- Valid I/Q, Stale too, empties the wait anchor, and not the read's own
+abbrev pub valid : Receiver → ℕ → Receiver
+valid r now = with-reading (with-last-valid-iq r now) (with-wait-entered (r .reading) Unset)
+
+-- Stale: no sample, no account, and the expected number stays
+unfoldable pub leftOut : Receiver → ℕ → ℕ → Receiver
+leftOut r now count = with-tracker (valid r now) (observed (r .tracker) count .tracker)
+
+-- any other event: its 238 samples wait, and its missing is told, added to the account and put into a slot
+unfoldable pub accepted : Float → Receiver → ℕ → ℕ → SeqEvent → ℕ → Receiver
+accepted rate r now count event missing =
+    record {
+      tracker = observed (r .tracker) count .tracker;
+      «queue_pos» = 0;
+      reading = valid r now .reading;
+      parked = record { window = used (r .parked .window) missing };
+      pending = pendingAfter rate event missing (r .pending);
+      «last_valid_iq» = now;
+      «last_accepted_iq» = now;
+      «read_returned» = r .«read_returned»;
+      stall = r .stall;
+    }
+
+-- a gap k adds k dropped and one gap, a restart one gap
+unfoldable pub counted : SeqEvent → InputHealthCounters → InputHealthCounters
+counted InOrder c = c
+counted (Gap k) c = countGap (countDropped c k)
+counted Stale c = c
+counted Restart c = countGap c
+
+-- ---- the session, of which every refusal was tested and the last reading is the later one
+
+-- nothing was written
+abbrev pub told : Answer → List ℕ → Session → Step Session
+told answer d s = replied answer [] d [] s
+
+-- valid I/Q zeroes the malformed count
+abbrev pub heardCommon : SeqEvent → Common → Common
+heardCommon event c = with-consecutive-malformed (with-health c (counted event (c .health))) 0
+
+-- Stale leaves the lent samples as they were; any other event puts the datagram's there
+unfoldable pub hear : State → Incoming → List ℕ → ℕ → SeqEvent → ℕ → Step State
+hear st i d count event missing =
+    let s = st .session in
+    pick (isStale event)
+    (keeping (st .samples) (told (heard event 0) d
+    (record { common = heardCommon event (s .common); receiver = leftOut (s .receiver) (i .now) count })))
+    (keeping (samplesOf (i .octets)) (told (heard event missing) d
+    (record {
+      common = heardCommon event (s .common);
+      receiver = accepted (s .common .settings .«sample_rate_hz») (s .receiver) (i .now) count event missing;
+    })))
+
+-- the arrival of the number count: its event, and its missing
+unfoldable pub heardAs : State → Incoming → List ℕ → ℕ → SeqEvent → Step State
+heardAs st i d count event =
+    hear st i d count event (missingOf event (restartOf (st .session .common .settings .«sample_rate_hz») (st .session .receiver) i count))
+
+unfoldable pub heardIq : State → Incoming → List ℕ → ℕ → Step State
+heardIq st i d count =
+    heardAs st i d count (eventOf (st .session .common .settings .«sample_rate_hz») (st .session .receiver) (i .now) count)
+
+-- a status packet: with attenuation on and 60 octets long the controller hears its overload bit at the arrival's reading, and a
+-- step up writes its packet, whose clock takes the later reading; else it is ignored
+unfoldable pub overload : Session → Incoming → List ℕ → Attenuation → Told → Step Session
+overload s i d Off bits = told (done ignored) d s
+overload s i d (On controller) (gives []) = told (done ignored) d s
+overload s i d (On controller) (gives (bits ∷ vs)) =
+    wrote (done status) s d (stepped (i .later) (Controller.observed controller (overloaded bits) (i .now)) (s .common))
+overload s i d (On controller) (refused k vs) = told (done ignored) d s
+
+unfoldable pub heardStatus : Session → Incoming → List ℕ → Step Session
+heardStatus s i d = overload s i d (s .common .attenuator .attenuation) (overloadTold (i .octets))
+
+-- one more malformed: the consecutive count saturates
+abbrev pub malformedCommon : Common → Common
+malformedCommon c =
+    with-health (with-consecutive-malformed c (min (c .«consecutive_malformed» + 1) 4294967295)) (countMalformed (c .health))
+
+-- with the consecutive count at or past the limit (0 acts as 1) the read closes
+unfoldable pub heardMalformed : Session → List ℕ → Step Session
+heardMalformed s d =
+    let c = malformedCommon (s .common) in
+    pick (leb (c .settings .«max_consecutive_malformed») (c .«consecutive_malformed»))
+    (told (done malformedLimit) d (record { common = c; receiver = shut (s .receiver) }))
+    (told (done malformed) d (with-common s c))
+
+unfoldable pub arrived : State → Incoming → List ℕ → Routed → Step State
+arrived st i d (Routing.iq count) = heardIq st i d count
+arrived st i d Routing.status = keeping (st .samples) (heardStatus (st .session) i d)
+arrived st i d Routing.ignored = keeping (st .samples) (told (done ignored) d (st .session))
+arrived st i d Routing.malformed = keeping (st .samples) (heardMalformed (st .session) d)
+
+-- the later reading becomes the last accepted one
+abbrev pub atReading : State → ℕ → State
+atReading st later =
+    record { session = with-common (st .session) (with-last-reading (st .session .common) later); samples = st .samples }
+
+abbrev pub route : State → Incoming → Routed
+route st i = routed (st .session .common .settings .«radio_ip») (st .session .common .settings .port) (i .from) (i .octets)
+
+unfoldable pub arrival : State → Incoming → List ℕ → Step State
+arrival st i d =
+    pick (notReading (st .session)) (refuse 10 d [] st)
+    (pick (fell (st .session) (i .now)) (refuse 11 d [] st)
+    (pick (waits (st .session .receiver)) (refuse 12 d [] st)
+    (pick (ltb (i .later) (i .now)) (refuse 13 d [] st)
+    (pick (ltb 8192 (length (i .waiting))) (refuse 14 d [] st)
+    (pick (ltb (length d) 1444) (refuse 15 d [] st)
+    (arrived (atReading st (i .later)) i d (route st i)))))))

@@ -1,0 +1,108 @@
+-- The book of 01, Demand 3 over a list of calls: fed the settings, the opening reading, and for each call its kind, its arguments
+-- without the session, and whether it was refused. Definitions only.
+use Prim.Native.Nat.{ℕ, _+_, _-_, _*_, _%_}
+use mathlib.Core.Bool.{Bool, true, false, cond}
+use mathlib.Core.List.{List}
+use mathlib.Core.Option.{Option, some, none}
+use Rattle.double.specs.Stream.{jumpLimit, restartMissing}
+use Rattle.account.specs.Rules.{begun, used, elapsed, outage}
+use Rattle.account.specs.Routing.{Routed, iq, status, ignored, malformed, routed}
+use Rattle.account.specs.Host.{Incoming, Call, Begin, Pass, Arrival, Take, Close, TakeMissing, TakeDiscontinuity, TakeStalled}
+use Rattle.account.specs.Whole.{fits, fitsBelow}
+use Rattle.account.specs.declared.receiver.Window.{Window}
+use Rattle.account.specs.declared.receiver.Window.the-variants.{Shut}
+use Rattle.account.specs.declared.settings.Settings.{Settings}
+
+-- ---- what a call is to the book
+
+pub data News : Type 0 where
+  Quiet : News
+  Began : (now : ℕ) → News
+  Took : (now : ℕ) → News
+  -- a valid I/Q datagram with this count
+  Came : (incoming : Incoming) (count : ℕ) → News
+
+abbrev pub brought : Incoming → Routed → News
+brought i (iq count) = Came i count
+brought i status = Quiet
+brought i ignored = Quiet
+brought i malformed = Quiet
+
+abbrev pub newsOf : Settings → Call → News
+newsOf s (Begin now) = Began now
+newsOf s (Take now buffer) = Took now
+newsOf s (Arrival i packets) = brought i (routed (s .«radio_ip») (s .port) (i .from) (i .octets))
+newsOf s (Pass now packets) = Quiet
+newsOf s (Close packets) = Quiet
+newsOf s TakeMissing = Quiet
+newsOf s TakeDiscontinuity = Quiet
+newsOf s TakeStalled = Quiet
+
+-- a refused call changes nothing
+abbrev pub news : Settings → Call → Bool → News
+news s c true = Quiet
+news s c false = newsOf s c
+
+-- ---- the book
+
+-- e, once a number is expected; the stale run; the times of the last accepted arrival and the last Take; the park window
+pub record Book : Type 0 where
+  pub expected : Option ℕ
+  pub run : ℕ
+  pub accepted : ℕ
+  pub taken : ℕ
+  pub window : Window
+
+-- both times start at the opening reading, with no window
+abbrev pub blank : ℕ → Book
+blank now = record { expected = none; run = 0; accepted = now; taken = now; window = Shut }
+
+-- the jump limit for an arrival at `now`
+abbrev pub limitIn : Settings → Book → ℕ → ℕ
+limitIn s b now = jumpLimit (elapsed (s .«sample_rate_hz») (b .accepted) (b .window) now) (s .«sample_rate_hz»)
+
+abbrev pub fitIn : Option ℕ → ℕ → ℕ → ℕ → Bool
+fitIn none limit run n = true
+fitIn (some e) limit run n = fits limit run e n
+
+-- the arrival of the number n at `now` fits; the first one does
+abbrev pub fit : Settings → Book → ℕ → ℕ → Bool
+fit s b now n = fitIn (b .expected) (limitIn s b now) (b .run) n
+
+abbrev pub belowIn : Option ℕ → ℕ → ℕ → Bool
+belowIn none run n = false
+belowIn (some e) run n = fitsBelow run e n
+
+-- it fits below e
+abbrev pub late : Book → ℕ → Bool
+late b n = belowIn (b .expected) (b .run) n
+
+-- what it misses as a restart
+abbrev pub restartIn : Settings → Book → Incoming → ℕ → ℕ
+restartIn s b i n =
+    restartMissing (outage (s .«sample_rate_hz») (b .accepted) (b .window) (i .now) (i .later) ((n + 1) % 0x1_0000_0000) (i .waiting)) (s .«sample_rate_hz»)
+
+abbrev pub missingIn : Option ℕ → Bool → ℕ → ℕ → ℕ
+missingIn none fit restart n = 0
+missingIn (some e) true restart n = 238 * (n - e)
+missingIn (some e) false restart n = restart
+
+-- what it misses
+abbrev pub missing : Settings → Book → Incoming → ℕ → ℕ
+missing s b i n = missingIn (b .expected) (fit s b (i .now) n) (restartIn s b i n) n
+
+-- one that fits below e only adds one to the stale run; any other empties that run, sets e and the accepted time, and its missing and
+-- the window follow by the rules
+abbrev pub judged : Settings → Book → Incoming → ℕ → Book
+judged s b i n =
+    cond (late b n)
+    (record { expected = b .expected; run = b .run + 1; accepted = b .accepted; taken = b .taken; window = b .window })
+    (record { expected = some (n + 1); run = 0; accepted = i .now; taken = b .taken; window = used (b .window) (missing s b i n) })
+
+-- Begin moves the window and Take its time
+abbrev pub noted : Settings → Book → News → ℕ → Book
+noted s b Quiet n = b
+noted s b (Began now) n =
+    record { expected = b .expected; run = b .run; accepted = b .accepted; taken = b .taken; window = begun (s .«park_window») (b .taken) (b .window) now }
+noted s b (Took now) n = record { expected = b .expected; run = b .run; accepted = b .accepted; taken = now; window = b .window }
+noted s b (Came i count) n = judged s b i n

@@ -1,0 +1,72 @@
+-- Demand 3: the account of the radio's stream agrees with the unbroken stream in whole numbers, over a whole list of calls from a
+-- session just opened. A single claim, about any host. Definitions only.
+use Prim.Native.Nat.{ℕ, _+_, _-_, _*_, _%_, _<_}
+use mathlib.Core.Path.{_≡_}
+use mathlib.Core.Logic.{_⊎_, _≢_, _↔_}
+use mathlib.Core.List.{List, [], _∷_, _++_}
+use mathlib.Core.Option.{Option, some, none}
+use lib.ListN.{length}
+use lib.Dec.{T}
+use Rattle.wire.specs.declared.sequence.SeqEvent.the-variants.{InOrder, Stale, Restart}
+use Rattle.account.specs.Settings.{accepts}
+use Rattle.account.specs.Sample.{Sample}
+use Rattle.account.specs.Host.{Reply, Host, trace, final}
+use Rattle.account.specs.Whole.{Near}
+use Rattle.account.specs.Book.{blank}
+use Rattle.account.specs.Ledger.{Sent, callsOf, Line, paired, handedOut, Entry, ledger, fitting, lateEntry, accepted, samplesOf, missingTold, highest}
+use Rattle.account.specs.declared.settings.Settings.{Settings}
+
+abbrev pub Each : (Entry → Type 0) → List Entry → Type 0
+Each P [] = Unit {0}
+Each P (x ∷ xs) = P x × Each P xs
+
+abbrev pub NearIn : Option ℕ → ℕ → Type 0
+NearIn none n = Unit {0}
+NearIn (some e) n = Near e n
+
+-- the premise: an arrival's whole number leaves its count modulo 2^32 and, after the first, lies from 2^31 below e to 2^31 - 1 above
+abbrev pub Lies : Entry → Type 0
+Lies x = (x .number % 0x1_0000_0000 ≡ x .count) × NearIn (x .book .expected) (x .number)
+
+-- Restart is told exactly where an arrival doesn't fit, Stale exactly where it fits below e; the first is in order
+pub record Judged (s : Settings) (x : Entry) : Type 0 where
+  pub restart : (x .says .event ≡ some Restart) ↔ ¬ T (fitting s x)
+  pub stale : (x .says .event ≡ some Stale) ↔ T (lateEntry x)
+  pub first : x .book .expected ≡ none → x .says .event ≡ some InOrder
+
+-- a stretch begins with the first arrival, and with each one told Restart, and ends before the next such or with the list
+abbrev pub Stretch : List Entry → List Entry → Entry → List Entry → List Entry → Type 0
+Stretch entries before x xs past =
+    (entries ≡ before ++ (x ∷ (xs ++ past))) × ((before ≡ []) ⊎ (x .says .event ≡ some Restart)) × Each (λ y. y .says .event ≢ some Restart) xs
+
+abbrev pub Rising : ℕ → List Entry → Type 0
+Rising n [] = Unit {0}
+Rising n (x ∷ xs) = (n < x .number) × Rising (x .number) xs
+
+-- in each stretch the accepted numbers rise, and samples + missing told after its first arrival = 238 × (highest - first + 1)
+pub record Sums (x : Entry) (xs : List Entry) : Type 0 where
+  pub rising : Rising (x .number) (accepted xs)
+  pub sum : length (samplesOf (x ∷ accepted xs)) + missingTold xs ≡ 238 * (highest (x .number) (accepted xs) - x .number + 1)
+
+-- the claim about the lines of a list, the samples that wait after it, and its arrivals
+pub record Agrees (s : Settings) (ls : List Line) (waiting : List Sample) (entries : List Entry) : Type 0 where
+  pub each : Each (Judged s) entries
+  -- what the Takes handed out, followed by what still waits, are the samples of all accepted arrivals, in order
+  pub samples : handedOut ls ++ waiting ≡ samplesOf (accepted entries)
+  pub sums : (before : List Entry) (x : Entry) (xs past : List Entry) → Stretch entries before x xs past → Sums x xs
+
+-- of calls, each with the whole number of the datagram that it brings, what they got back, and the samples that wait after them
+abbrev pub Account : Settings → ℕ → List Sent → List Reply → List Sample → Type 0
+Account s now calls replies waiting =
+    let ls = paired s calls replies in
+    let entries = ledger s (blank now) ls in
+    Each Lies entries → Agrees s ls waiting entries
+
+-- of a host just opened
+abbrev pub Demand3 : Host → Settings → ℕ → List Sent → Type 0
+Demand3 h s now calls =
+    Account s now calls (trace h (h .opened s now) (callsOf calls)) (h .waiting (final h (h .opened s now) (callsOf calls)))
+
+-- of all accepted settings, opening readings and lists of calls
+abbrev pub Meets : Host → Type 0
+Meets h = (s : Settings) (now : ℕ) (calls : List Sent) → T (accepts s) → Demand3 h s now calls

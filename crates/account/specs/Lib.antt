@@ -1,0 +1,24 @@
+-- What every call gives, and demand 3's statement, in the order of reading.
+pub mod Parts
+pub mod Stream
+pub mod Settings
+pub mod Answer
+pub mod Sample
+pub mod Rules
+pub mod Routing
+pub mod Host
+pub mod State
+pub mod Sending
+pub mod Open
+pub mod Begin
+pub mod Pass
+pub mod Arrival
+pub mod Take
+pub mod Close
+pub mod Drain
+pub mod Session
+pub mod Whole
+pub mod Book
+pub mod Ledger
+pub mod Demand3
+pub mod Exact

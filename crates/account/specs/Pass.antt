@@ -1,0 +1,40 @@
+-- Pass: Ready if samples wait; else soft stall, hard stall, then packets. Definitions only.
+use Prim.Native.Nat.{ℕ, _-_}
+use mathlib.Core.List.{List, []}
+use lib.ListN.{length}
+use lib.Dec.{ltb, leb}
+use Rattle.octets.specs.Pick.{pick}
+use Rattle.stall.specs.Episode.{isDue, reported}
+use Rattle.account.specs.Answer.{Answer, done, ready, softStall, hardStall, sent}
+use Rattle.account.specs.Host.{Step}
+use Rattle.account.specs.State.{waits, quietSince, notReading, fell, replied, refuse}
+use Rattle.account.specs.Sending.{duePackets, wrote}
+use Rattle.account.specs.Parts.{with-common, with-receiver, with-last-reading, with-reading, with-stall, with-entered}
+use Rattle.account.specs.declared.receiver.Anchor.the-variants.{Unset}
+use Rattle.account.specs.declared.receiver.Receiver.{Receiver}
+use Rattle.account.specs.declared.session.Session.{Session}
+
+-- the read closes; its wait anchor stays
+abbrev pub shut : Receiver → Receiver
+shut r = with-reading r (with-entered (r .reading) Unset)
+
+-- the stall flag is set, delivering goes off and the read closes; the Take time stays
+abbrev pub stalled : Receiver → Receiver
+stalled r = with-stall (shut r) (reported (r .stall))
+
+-- after every refusal, of a session whose last reading is now
+unfoldable pub passed : Session → ℕ → List ℕ → Step Session
+passed s now d =
+    pick (waits (s .receiver)) (replied (done ready) [] d [] s)
+    (pick (isDue (s .receiver .stall) (quietSince (s .receiver)) now (s .common .settings .«stall_after»))
+    (replied (done softStall) [] d [] (with-receiver s (stalled (s .receiver))))
+    (pick (leb (s .common .settings .«stall_after») (now - quietSince (s .receiver)))
+    (replied (done hardStall) [] d [] (with-receiver s (shut (s .receiver))))
+    (wrote (done sent) s d (duePackets now (s .common)))))
+
+unfoldable pub pass : Session → ℕ → List ℕ → Step Session
+pass s now d =
+    pick (notReading s) (refuse 10 d [] s)
+    (pick (fell s now) (refuse 11 d [] s)
+    (pick (ltb (length d) 4452) (refuse 15 d [] s)
+    (passed (with-common s (with-last-reading (s .common) now)) now d)))

@@ -1,0 +1,110 @@
+-- The rules of times, numbers and slots: 01, Numbers in the stream and The session. They name no session, and the book of demand 3
+-- uses the same. Definitions only. A difference of readings is of natural numbers, and so never below 0.
+use Prim.Native.Nat.{ℕ, _+_, _-_, _*_, min, max}
+use mathlib.Core.Bool.{Bool, true, false}
+use mathlib.Core.List.{List, [], _∷_}
+use lib.Dec.{leb}
+use lib.Ieee.{Float}
+use Rattle.octets.specs.Pick.{pick}
+use Rattle.double.specs.Whole.{most}
+use Rattle.double.specs.Stream.{jumpLimit, restartMissing, accountTime, coveredTime, belowHalf}
+use Rattle.wire.specs.Sequence.{observed}
+use Rattle.wire.specs.declared.sequence.Expected.the-variants.{Next}
+use Rattle.wire.specs.declared.sequence.SeqTracker.{SeqTracker}
+use Rattle.wire.specs.declared.sequence.SeqEvent.{SeqEvent}
+use Rattle.wire.specs.declared.sequence.SeqEvent.the-variants.{InOrder, Gap, Stale, Restart}
+use Rattle.account.specs.declared.receiver.Window.{Window}
+use Rattle.account.specs.declared.receiver.Window.the-variants.{Shut, Open}
+use Rattle.account.specs.declared.receiver.Slot.{Slot}
+use Rattle.account.specs.declared.receiver.Slot.the-variants.{Empty, Holds}
+use Rattle.account.specs.declared.receiver.Pending.{Pending}
+use Rattle.account.specs.Parts.{with-missing, with-discontinuity}
+
+-- ---- the park window
+
+-- a pause of 100 ms opens a window of so many arrivals anchored at the last Take, or refills an open one
+unfoldable pub refilled : ℕ → ℕ → Window → Window
+refilled size taken Shut = Open taken 0 size
+refilled size taken (Open from accounted left) = Open from accounted size
+
+-- Begin: 100 ms or more since the last Take
+unfoldable pub begun : ℕ → ℕ → Window → ℕ → Window
+begun size taken w now = pick (leb 100000000 (now - taken)) (refilled size taken w) w
+
+-- an accepted arrival adds 238 plus missing to the account and takes one from the window; at none left it closes
+unfoldable pub used : Window → ℕ → Window
+used Shut missing = Shut
+used (Open from accounted left) missing =
+    pick (leb left 1) Shut (Open from (min (accounted + (238 + missing)) most) (left - 1))
+
+-- ---- elapsed time and the jump limit
+
+-- E: the time since the last accepted I/Q, or, if more, in a park window the time from its anchor less its account over the rate
+unfoldable pub elapsed : Float → ℕ → Window → ℕ → ℕ
+elapsed rate accepted Shut now = now - accepted
+elapsed rate accepted (Open from accounted left) now = max (now - accepted) (now - from - accountTime accounted rate)
+
+-- a gap over the jump limit is a restart
+unfoldable pub capped : ℕ → SeqEvent → SeqEvent
+capped limit InOrder = InOrder
+capped limit (Gap k) = pick (leb k limit) (Gap k) Restart
+capped limit Stale = Stale
+capped limit Restart = Restart
+
+-- ---- a restart
+
+-- what a waiting number adds to the waiting total
+unfoldable pub walked : ℕ → SeqEvent → ℕ
+walked limit InOrder = 1
+walked limit (Gap k) = pick (leb k limit) (k + 1) 1
+walked limit Stale = 0
+walked limit Restart = 1
+
+-- the waiting total walks a copy of the tracker, as backlog_datagrams does
+unfoldable pub backlog : ℕ → SeqTracker → List ℕ → ℕ
+backlog limit t [] = 0
+backlog limit t (seq ∷ waiting) =
+    walked limit (observed t seq .event) + backlog limit (observed t seq .tracker) waiting
+
+-- the tracker as an accepted arrival leaves it, by the number expected next
+abbrev pub expecting : ℕ → SeqTracker
+expecting next = record { expected = Next next; «stale_run» = 0 }
+
+-- the bound less the time that what waits covers; the walk's limit is the bound's, before that comes off
+unfoldable pub uncovered : Float → ℕ → ℕ → List ℕ → ℕ
+uncovered rate bound next waiting = bound - coveredTime (backlog (jumpLimit bound rate) (expecting next) waiting) rate
+
+-- the time that a restart misses: E, or in a window E at the later reading, last accepted already being this arrival, less what
+-- waits covers
+unfoldable pub outage : Float → ℕ → Window → ℕ → ℕ → ℕ → List ℕ → ℕ
+outage rate accepted Shut now later next waiting = elapsed rate accepted Shut now
+outage rate accepted (Open from accounted left) now later next waiting =
+    uncovered rate (elapsed rate now (Open from accounted left) later) next waiting
+
+-- ---- an arrival's missing, and where it is told
+
+-- 238 k of a gap k; of a restart what its time gives
+unfoldable pub missingOf : SeqEvent → ℕ → ℕ
+missingOf InOrder restart = 0
+missingOf (Gap k) restart = 238 * k
+missingOf Stale restart = 0
+missingOf Restart restart = restart
+
+-- a slot with n more: outside 01's domain it saturates
+unfoldable pub added : Slot → ℕ → Slot
+added Empty n = Holds n
+added (Holds m) n = Holds (min (m + n) most)
+
+-- a gap's missing goes, below half the rate, to pending_missing, else to pending_discontinuity; a restart's to the latter
+unfoldable pub pendingAfter : Float → SeqEvent → ℕ → Pending → Pending
+pendingAfter rate InOrder missing p = p
+pendingAfter rate (Gap k) missing p =
+    pick (belowHalf missing rate) (with-missing p (added (p .missing) missing)) (with-discontinuity p (added (p .discontinuity) missing))
+pendingAfter rate Stale missing p = p
+pendingAfter rate Restart missing p = with-discontinuity p (added (p .discontinuity) missing)
+
+abbrev pub isStale : SeqEvent → Bool
+isStale InOrder = false
+isStale (Gap k) = false
+isStale Stale = true
+isStale Restart = false

@@ -1,0 +1,13 @@
+-- A sample is an I, Q pair as f32, in the datagram's order. Definitions only.
+use mathlib.Core.List.{List, [], _∷_}
+use lib.Ieee.{Float}
+
+pub record Sample : Type 0 where
+  pub i : Float
+  pub q : Float
+
+-- the pairs that stand in a buffer; an odd last place is in none
+unfoldable pub pairs : List Float → List Sample
+pairs [] = []
+pairs (i ∷ []) = []
+pairs (i ∷ q ∷ l) = record { i = i; q = q } ∷ pairs l

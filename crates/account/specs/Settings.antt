@@ -1,0 +1,55 @@
+-- The settings: 01's rows 1 to 6, in order, and what the attenuation choice means. Definitions only.
+use Prim.Native.Nat.{ℕ}
+use mathlib.Core.Bool.{Bool, true, false, not}
+use mathlib.Core.List.{List, [], _∷_}
+use lib.Dec.{ltb, eqb}
+use Rattle.octets.specs.Pick.{pick}
+use Rattle.wire.specs.Answer.{Told, gives, refused}
+use Rattle.wire.specs.Centre.{wholeCentre, belowNyquist}
+use Rattle.wire.specs.Rate.{isRate, khzOf}
+use Rattle.account.specs.declared.settings.Settings.{Settings}
+use Rattle.account.specs.declared.settings.AttenuationChoice.{AttenuationChoice}
+use Rattle.account.specs.declared.settings.AttenuationChoice.the-variants.{Off, On, Unsaid}
+use Rattle.account.specs.declared.settings.SettingsAnswer.{SettingsAnswer}
+use Rattle.account.specs.declared.settings.SettingsAnswer.the-variants.{Accepted, DdcCount, CenterCount, Rate, Center, CenterTooHigh, Port}
+
+-- validate_protocol2
+unfoldable pub settingsTold : Settings → Told
+settingsTold s =
+    -- 1 receiver count not 1
+    pick (not (eqb (s .«ddc_count») 1)) (refused 1 [])
+    -- 2 not exactly one centre
+    (pick (not (eqb (s .«center_count») 1)) (refused 2 [])
+    -- 3 rate not 48000, 96000, 192000 or 384000 Hz
+    (pick (not (isRate (s .«sample_rate_hz»))) (refused 3 [])
+    -- 4 centre not finite, not above 0, or not whole
+    (pick (not (wholeCentre (s .«center_freq_hz»))) (refused 4 [])
+    -- 5 centre 61,440,000 Hz or more
+    (pick (not (belowNyquist (s .«center_freq_hz»))) (refused 5 [])
+    -- 6 port above 65,524
+    (pick (ltb 65524 (s .port)) (refused 6 [])
+    -- the rate in kHz
+    (gives (khzOf (s .«sample_rate_hz») ∷ [])))))))
+
+abbrev pub isGiven : Told → Bool
+isGiven (gives vs) = true
+isGiven (refused k vs) = false
+
+-- no row applies
+unfoldable pub accepts : Settings → Bool
+accepts s = isGiven (settingsTold s)
+
+abbrev pub settingsAnswer : SettingsAnswer → Told
+settingsAnswer (Accepted khz) = gives (khz ∷ [])
+settingsAnswer DdcCount = refused 1 []
+settingsAnswer CenterCount = refused 2 []
+settingsAnswer Rate = refused 3 []
+settingsAnswer Center = refused 4 []
+settingsAnswer CenterTooHigh = refused 5 []
+settingsAnswer Port = refused 6 []
+
+-- off, on or unsaid; unsaid means off
+abbrev pub attenuates : AttenuationChoice → Bool
+attenuates Off = false
+attenuates On = true
+attenuates Unsaid = false

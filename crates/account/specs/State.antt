@@ -1,0 +1,75 @@
+-- The whole state of a session: its control, and the samples that are lent beside it. What of it the calls ask. Definitions only.
+use Prim.Native.Nat.{ℕ, _-_, _*_, max}
+use mathlib.Core.Bool.{Bool, true, false, not, _||_}
+use mathlib.Core.List.{List, []}
+use lib.ListN.{drop}
+use lib.Dec.{ltb, leb}
+use lib.Ieee.{Float}
+use Rattle.account.specs.Answer.{Answer, refused}
+use Rattle.account.specs.Sample.{Sample, pairs}
+use Rattle.account.specs.Host.{Reply, Step}
+use Rattle.account.specs.declared.receiver.Anchor.{Anchor}
+use Rattle.account.specs.declared.receiver.Anchor.the-variants.{Unset, At}
+use Rattle.account.specs.declared.receiver.Receiver.{Receiver}
+use Rattle.account.specs.declared.session.Session.{Session}
+
+pub record State : Type 0 where
+  pub session : Session
+  pub samples : List Float
+
+-- ---- a receiver
+
+-- how many samples wait
+unfoldable pub left : Receiver → ℕ
+left r = 238 - r .«queue_pos»
+
+unfoldable pub waits : Receiver → Bool
+waits r = ltb 0 (left r)
+
+-- the samples that wait: the lent places from the queue's position to their end
+unfoldable pub waitingIn : Receiver → List Float → List Sample
+waitingIn r samples = pairs (drop (2 * r .«queue_pos») samples)
+
+abbrev pub isSet : Anchor → Bool
+isSet Unset = false
+isSet (At t) = true
+
+-- a read is open where it has its anchor
+abbrev pub isOpen : Receiver → Bool
+isOpen r = isSet (r .reading .entered)
+
+abbrev pub orZero : Anchor → ℕ
+orZero Unset = 0
+orZero (At t) = t
+
+-- the later of last valid I/Q and this read's anchor
+unfoldable pub quietSince : Receiver → ℕ
+quietSince r = max (r .«last_valid_iq») (orZero (r .reading .entered))
+
+-- ---- refusals
+
+-- 10 session closed; no read open (Pass, Arrival, Take)
+abbrev pub notReading : Session → Bool
+notReading s = s .common .closed || not (isOpen (s .receiver))
+
+-- 10 session closed; Begin with a read open
+abbrev pub notIdle : Session → Bool
+notIdle s = s .common .closed || isOpen (s .receiver)
+
+-- 11 reading below the last accepted one
+abbrev pub fell : Session → ℕ → Bool
+fell s now = ltb now (s .common .«last_reading»)
+
+-- ---- what a call gives
+
+abbrev pub replied : {S : Type 0} → Answer → List ℕ → List ℕ → List Float → S → Step S
+replied answer streams packets buffer s =
+    record { reply = record { answer = answer; streams = streams; packets = packets; buffer = buffer }; state = s }
+
+-- a refusal changes nothing: the state and every lent buffer are as they were
+abbrev pub refuse : {S : Type 0} → ℕ → List ℕ → List Float → S → Step S
+refuse number packets buffer s = replied (refused number) [] packets buffer s
+
+-- a call that is not lent the samples keeps them
+abbrev pub keeping : List Float → Step Session → Step State
+keeping samples x = record { reply = x .reply; state = record { session = x .state; samples = samples } }

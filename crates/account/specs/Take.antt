@@ -1,0 +1,51 @@
+-- Take: hands out I, Q pairs up to buffer or queue, closes the read, sets delivering. Definitions only.
+use Prim.Native.Nat.{ℕ, _+_, _*_, _/_, min}
+use mathlib.Core.List.{List, []}
+use lib.ListN.{length, take, drop}
+use lib.Dec.{ltb, eqb}
+use lib.Ieee.{Float}
+use Rattle.octets.specs.Pick.{pick}
+use Rattle.octets.specs.Written.{written}
+use Rattle.stall.specs.Episode.{delivered}
+use Rattle.account.specs.Answer.{Answer, took}
+use Rattle.account.specs.Host.{Step}
+use Rattle.account.specs.State.{State, left, notReading, fell, replied, refuse}
+use Rattle.account.specs.Pass.{shut}
+use Rattle.account.specs.Parts.{with-last-reading}
+use Rattle.account.specs.declared.receiver.Receiver.{Receiver}
+use Rattle.account.specs.declared.session.Session.{Session}
+
+-- the f32 of n pairs, from the queue's position on
+abbrev pub front : Receiver → List Float → ℕ → List Float
+front r samples n = take (2 * n) (drop (2 * r .«queue_pos») samples)
+
+unfoldable pub handed : Receiver → ℕ → ℕ → Receiver
+handed r now n =
+    record {
+      tracker = r .tracker;
+      «queue_pos» = r .«queue_pos» + n;
+      reading = shut r .reading;
+      parked = r .parked;
+      pending = r .pending;
+      «last_valid_iq» = r .«last_valid_iq»;
+      «last_accepted_iq» = r .«last_accepted_iq»;
+      «read_returned» = now;
+      stall = delivered (r .stall);
+    }
+
+unfoldable pub handOut : State → ℕ → List Float → ℕ → Step State
+handOut st now buffer n =
+    let s = st .session in
+    replied (took n) [] [] (written buffer 0 (front (s .receiver) (st .samples) n))
+    (record {
+      session = record { common = with-last-reading (s .common) now; receiver = handed (s .receiver) now n };
+      samples = st .samples;
+    })
+
+unfoldable pub takeOut : State → ℕ → List Float → Step State
+takeOut st now buffer =
+    pick (notReading (st .session)) (refuse 10 [] buffer st)
+    (pick (fell (st .session) now) (refuse 11 [] buffer st)
+    (pick (ltb (length buffer) 2) (refuse 16 [] buffer st)
+    (pick (eqb (left (st .session .receiver)) 0) (refuse 17 [] buffer st)
+    (handOut st now buffer (min (length buffer / 2) (left (st .session .receiver)))))))
