@@ -9,3 +9,6 @@ pub mod Same
 pub mod Observes
 pub mod Arrived
 pub mod Demand3
+pub mod Numbering
+pub mod Integers
+pub mod Wrong

@@ -22,3 +22,7 @@ pub mod Book
 pub mod Ledger
 pub mod Demand3
 pub mod Exact
+pub mod Numbering
+pub mod Integers
+pub mod Lists
+pub mod Wrong

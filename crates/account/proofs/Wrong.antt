@@ -1,0 +1,134 @@
+-- Hosts that demand 3 rules out, each by one list of calls. Assumes nothing.
+use Prim.Native.Nat.{ℕ, _+_, _*_, _-_, _≤_, _<_}
+use mathlib.Core.Path.{_≡_, refl, sym, ap, _∙_}
+use mathlib.Core.Logic.{inl, inr}
+use mathlib.Core.Bool.{Bool, true, false}
+use mathlib.Core.Option.{some}
+use mathlib.Core.List.{List, [], _∷_, _++_, append-nil}
+use native.Mathlib.Omega.{arith}
+use lib.ListN.{length, take, drop, length-append, replicate}
+use lib.Dec.{T}
+use lib.Ieee.{Float, lt, eq, ofInt, mul, div, add, sub, round}
+use lib.Ieee.Scale.{finite}
+use Rattle.octets.specs.Pick.{pick}
+use Rattle.octets.specs.Written.{written}
+use Rattle.double.specs.Whole.{natOf, rounded, isWhole}
+use Rattle.double.specs.Seconds.{secondsOf}
+use Rattle.double.specs.Stream.{plausible, jumpLimit, restartMissing, accountTime, coveredTime, belowHalf}
+use Rattle.wire.specs.Search.{first}
+use Rattle.wire.specs.Rate.{rateAt, isRate}
+use Rattle.wire.specs.Centre.{wholeCentre, belowNyquist}
+use Rattle.wire.specs.Iq.{headerTold, rows}
+use Rattle.wire.specs.Iq as Iq
+use Rattle.wire.specs.Sequence.{after, less, zeroRestarts, meant, observed}
+use Rattle.wire.specs.declared.sequence.SeqEvent.the-variants.{InOrder, Gap, Stale, Restart}
+use Rattle.account.specs.Settings.{settingsTold, accepts}
+use Rattle.account.specs.Rules.{begun, refilled, used, elapsed, capped, missingOf, outage}
+use Rattle.account.specs.Routing.{byOffset, routed}
+use Rattle.account.specs.Sample.{Sample, pairs}
+use Rattle.account.specs.declared.settings.Settings.{Settings}
+use Rattle.account.specs.State.{left, waits, waitingIn}
+use Rattle.account.specs.Open.{freshCommon, freshReceiver, fresh, opened}
+use Rattle.account.specs.Begin.{orAt, begunBy, begin}
+use Rattle.account.specs.Arrival.{eventOf, restartOf, leftOut, heardMalformed, hear, heardAs, heardIq, arrived, arrival}
+use Rattle.account.specs.Arrival as Arrival
+use Rattle.account.specs.Take.{handed, handOut, takeOut}
+use Rattle.account.specs.Close.{close}
+use Rattle.account.specs.Host.{Begin, Close}
+use Rattle.account.specs.Session.{step}
+use Rattle.account.specs.Whole.{Near, fitsAbove, fitsBelow, fits}
+use Rattle.account.specs.Ledger.{Sent, Line, handedOut, Entry, accepted, samplesIn, samplesOf, missingTold, highest}
+use Rattle.account.specs.Demand3.{Meets, Agrees, Sums}
+use Rattle.account.specs.Wrong.{Refuted}
+use Rattle.account.proofs.Pairs.{pairs-count, datagram-size, datagram-samples, none-past, handed-out}
+use Rattle.account.specs.Lists.{usual, datagram, silence, plain, arrive, noise, readAt}
+
+pub usual-accepted : T (accepts usual)
+unfolding accepts settingsTold pick isRate rateAt first eq ofInt wholeCentre belowNyquist isWhole lt
+usual-accepted = tt
+
+near : (e n : ℕ) → e ≤ n + 0x8000_0000 → n < e + 0x8000_0000 → Near e n
+near e n l h = record { low = l; high = h }
+
+-- each arrival has 238 samples
+samples-of : (l : List Entry) → length (samplesOf l) ≡ 238 * length l
+samples-of [] = refl
+samples-of (x ∷ xs) = length-append (samplesIn x) (samplesOf xs) ∙ omega (arith, datagram-samples (x .incoming .octets), samples-of xs)
+
+-- a stretch's sum with its samples counted
+sum-of : (x : Entry) (xs : List Entry) → Sums x xs → 238 * length (x ∷ accepted xs) + missingTold xs ≡ 238 * (highest (x .number) (accepted xs) - x .number + 1)
+sum-of x xs s = ap (λ (k : ℕ). k + missingTold xs) (sym (samples-of (x ∷ accepted xs))) ∙ s .sum
+
+-- as many samples were handed out or wait as were accepted
+handed-of : (s : Settings) (ls : List Line) (waiting : List Sample) (entries : List Entry) → Agrees s ls waiting entries → length (handedOut ls ++ waiting) ≡ 238 * length (accepted entries)
+handed-of s ls waiting entries a = ap length (a .samples) ∙ samples-of (accepted entries)
+
+-- a whole datagram handed out, and the same still waiting
+doubled : (l buffer : List Float) → length l ≡ 476 → length ((pairs (take 476 (written buffer 0 (take 476 l))) ++ []) ++ pairs l) ≡ 476
+doubled l buffer h =
+    let out = pairs (take 476 (written buffer 0 (take 476 l))) in
+    let e : out ++ pairs (drop 476 l) ≡ pairs l ++ [] = handed-out 238 0 l buffer h (omega arith) in
+    let once : out ≡ pairs l = sym (append-nil out) ∙ ap (λ (r : List Sample). out ++ r) (sym (none-past 238 l h refl)) ∙ e ∙ append-nil (pairs l) in
+    rw (append-nil out, once) (length-append (pairs l) (pairs l) ∙ omega (arith, pairs-count 238 l h))
+
+gap-apart : (k : ℕ) → some (Gap k) ≡ some Restart → ⊥
+gap-apart k e = let z : _≡_ {A = ℕ} 0 1 = cc in omega arith
+
+stale-apart : some Stale ≡ some Restart → ⊥
+stale-apart e = let z : _≡_ {A = ℕ} 0 1 = cc in omega arith
+
+-- numbers 5 and 7: one is missing
+abbrev gap : List Sent
+gap = readAt 0 5 ++ readAt 0 7
+
+-- 101 is expected
+abbrev late : (_≡_ {A = ℕ} 100 100) × Near 101 100
+late = (refl, near 101 100 (omega arith) (omega arith))
+
+pub refuted : Refuted
+unfolding pick accepts settingsTold isRate rateAt first eq ofInt wholeCentre belowNyquist isWhole lt opened fresh freshCommon freshReceiver step
+    begin begunBy orAt begun refilled arrival arrived routed byOffset headerTold rows heardIq heardAs hear eventOf capped observed meant less after zeroRestarts
+    elapsed jumpLimit plausible natOf secondsOf add mul div waits left Arrival.accepted used missingOf takeOut handOut handed fits fitsAbove fitsBelow
+    restartMissing rounded sub outage restartOf waitingIn close leftOut heardMalformed
+refuted =
+    record {
+      invents = λ m.
+        let a = m usual 0 gap usual-accepted ((refl, tt), ((refl, near 6 7 (omega arith) (omega arith)), tt)) in
+        let z : _≡_ {A = ℕ} 952 714 = sum-of _ _ (a .sums [] _ (_ ∷ []) [] (refl, inl refl, (gap-apart 1, tt))) in
+        omega arith;
+      inventsOutages = λ m.
+        let a = m usual 0 (readAt 0 5 ++ readAt 0 0) usual-accepted ((refl, tt), ((refl, near 6 0 (omega arith) (omega arith)), tt)) in
+        let z : _≡_ {A = ℕ} 48000 0 = a .1 .1 .1 .1 .0 .1 in
+        omega arith;
+      hushes = λ m.
+        let a = m usual 0 gap usual-accepted ((refl, tt), ((refl, near 6 7 (omega arith) (omega arith)), tt)) in
+        let z : _≡_ {A = ℕ} 476 714 = sum-of _ _ (a .sums [] _ (_ ∷ []) [] (refl, inl refl, (gap-apart 1, tt))) in
+        omega arith;
+      -- the second fits
+      restarts = λ m.
+        let a = m usual 0 (readAt 0 5 ++ readAt 0 6) usual-accepted ((refl, tt), ((refl, near 6 6 (omega arith) (omega arith)), tt)) in
+        a .each .1 .0 .restart .0 refl tt;
+      drops = λ m.
+        let a = m usual 0 (plain (Begin 0) ∷ arrive 0 5 ∷ plain (Close (replicate 2888 0)) ∷ []) usual-accepted ((refl, tt), tt) in
+        let z : _≡_ {A = ℕ} 0 238 = sym (ap length (none-past 238 (Iq.samplesOf (datagram 5)) (datagram-size (datagram 5)) refl)) ∙ handed-of _ _ _ _ a in
+        omega arith;
+      twice = λ m.
+        let a = m usual 0 (readAt 0 5) usual-accepted ((refl, tt), tt) in
+        let z : _≡_ {A = ℕ} 476 238 = sym (doubled (Iq.samplesOf (datagram 5)) silence (datagram-size (datagram 5))) ∙ handed-of _ _ _ _ a in
+        omega arith;
+      -- 101 is expected, also after 90
+      advances = λ m.
+        let a = m usual 0 (readAt 0 100 ++ (plain (Begin 0) ∷ arrive 0 90 ∷ arrive 0 101 ∷ [])) usual-accepted
+              ((refl, tt), ((refl, near 101 90 (omega arith) (omega arith)), ((refl, near 101 101 (omega arith) (omega arith)), tt))) in
+        let z : _≡_ {A = ℕ} 2856 476 = sum-of _ _ (a .sums [] _ (_ ∷ _ ∷ []) [] (refl, inl refl, (stale-apart, (gap-apart 10, tt)))) in
+        omega arith;
+      -- eight stale ones
+      bears = λ m.
+        let a = m usual 0 (readAt 0 100 ++ (plain (Begin 0) ∷ arrive 0 100 ∷ arrive 0 100 ∷ arrive 0 100 ∷ arrive 0 100 ∷ arrive 0 100 ∷ arrive 0 100 ∷ arrive 0 100 ∷ arrive 0 100 ∷ [])) usual-accepted
+              ((refl, tt), (late, (late, (late, (late, (late, (late, (late, (late, tt))))))))) in
+        stale-apart (a .each .1 .1 .1 .1 .1 .1 .1 .1 .0 .restart .1 (λ t. t));
+      -- the same, with a malformed one before the eighth
+      resets = λ m.
+        let a = m usual 0 (readAt 0 100 ++ (plain (Begin 0) ∷ arrive 0 100 ∷ arrive 0 100 ∷ arrive 0 100 ∷ arrive 0 100 ∷ arrive 0 100 ∷ arrive 0 100 ∷ arrive 0 100 ∷ noise 0 ∷ arrive 0 100 ∷ [])) usual-accepted
+              ((refl, tt), (late, (late, (late, (late, (late, (late, (late, (late, tt))))))))) in
+        stale-apart (a .each .1 .1 .1 .1 .1 .1 .1 .1 .0 .restart .1 (λ t. t)) }

@@ -1,0 +1,166 @@
+-- Hosts that are wrong, each the session but for one thing, and what is claimed of them. Definitions only.
+use Prim.Native.Nat.{ℕ, _+_, min}
+use Rattle.octets.specs.Number.{beAt}
+use Rattle.wire.specs.declared.sequence.SeqEvent.{SeqEvent}
+use Rattle.wire.specs.declared.sequence.SeqEvent.the-variants.{InOrder, Gap, Stale, Restart}
+use Rattle.wire.specs.declared.sequence.Expected.{Expected}
+use Rattle.wire.specs.declared.sequence.SeqTracker.{SeqTracker}
+use Rattle.wire.specs.declared.sequence.Expected.the-variants.{Nothing, Next}
+use Rattle.wire.specs.Sequence.{after}
+use Rattle.account.specs.Answer.{Answer, refused, done, heard, took, slot, flag}
+use Rattle.account.specs.Host.{Incoming, Call, Begin, Pass, Arrival, Take, Close, TakeMissing, TakeDiscontinuity, TakeStalled, Reply, Step, Host}
+use Rattle.account.specs.State.{State}
+use Rattle.account.specs.Session.{step, session}
+use Rattle.account.specs.Parts.{with-receiver, with-tracker}
+use Rattle.account.specs.Lists.{silence}
+use Rattle.account.specs.Demand3.{Meets}
+use Rattle.account.specs.Exact.{TellsAll}
+
+-- the session, with another step
+abbrev pub with : (State → Call → Step State) → Host
+with f = record { State = State; opened = session silence .opened; step = f; waiting = session silence .waiting }
+
+abbrev pub answering : Answer → Reply → Reply
+answering a r = record { answer = a; streams = r .streams; packets = r .packets; buffer = r .buffer }
+
+-- the session, with another answer by what was expected
+abbrev pub telling : (Expected → Answer → Answer) → Host
+telling f =
+    with (λ st c.
+      record {
+        reply = answering (f (st .session .receiver .tracker .expected) (step st c .reply .answer)) (step st c .reply);
+        state = step st c .state })
+
+abbrev pub onEvent : (SeqEvent → ℕ → Answer) → Answer → Answer
+onEvent f (heard event missing) = f event missing
+onEvent f (refused number) = refused number
+onEvent f (done word) = done word
+onEvent f (took n) = took n
+onEvent f (slot held) = slot held
+onEvent f (flag stalled) = flag stalled
+
+-- ---- invented missing counts
+
+-- one datagram more is told missing in each gap
+abbrev pub moreInGaps : SeqEvent → ℕ → Answer
+moreInGaps (Gap k) m = heard (Gap k) (m + 238)
+moreInGaps InOrder m = heard InOrder m
+moreInGaps Stale m = heard Stale m
+moreInGaps Restart m = heard Restart m
+
+abbrev pub invents : Host
+invents = telling (λ e. onEvent moreInGaps)
+
+-- a second more is told missing with each restart
+abbrev pub moreInRestarts : SeqEvent → ℕ → Answer
+moreInRestarts Restart m = heard Restart (m + 48000)
+moreInRestarts InOrder m = heard InOrder m
+moreInRestarts (Gap k) m = heard (Gap k) m
+moreInRestarts Stale m = heard Stale m
+
+abbrev pub inventsOutages : Host
+inventsOutages = telling (λ e. onEvent moreInRestarts)
+
+-- nothing is ever told missing
+abbrev pub hushes : Host
+hushes = telling (λ e. onEvent (λ event m. heard event 0))
+
+-- ---- Restart for every arrival where a number was expected
+
+abbrev pub restartLater : Expected → Answer → Answer
+restartLater Nothing a = a
+restartLater (Next x) a = onEvent (λ event m. heard Restart m) a
+
+abbrev pub restarts : Host
+restarts = telling restartLater
+
+-- ---- the queue
+
+abbrev pub with-queue-pos : State → ℕ → State
+with-queue-pos st at =
+    record {
+      session =
+        with-receiver (st .session)
+          (record {
+            tracker = st .session .receiver .tracker;
+            «queue_pos» = at;
+            reading = st .session .receiver .reading;
+            parked = st .session .receiver .parked;
+            pending = st .session .receiver .pending;
+            «last_valid_iq» = st .session .receiver .«last_valid_iq»;
+            «last_accepted_iq» = st .session .receiver .«last_accepted_iq»;
+            «read_returned» = st .session .receiver .«read_returned»;
+            stall = st .session .receiver .stall });
+      samples = st .samples }
+
+-- the state after a Close, a Take or an Arrival, made by one of these
+abbrev pub leaving : (State → State) → (State → State) → (Incoming → Answer → State → State) → State → Call → Step State
+leaving closed taken came st (Close d) = record { reply = step st (Close d) .reply; state = closed (step st (Close d) .state) }
+leaving closed taken came st (Take now b) = record { reply = step st (Take now b) .reply; state = taken (step st (Take now b) .state) }
+leaving closed taken came st (Arrival i d) =
+    record { reply = step st (Arrival i d) .reply; state = came i (step st (Arrival i d) .reply .answer) (step st (Arrival i d) .state) }
+leaving closed taken came st (Begin now) = step st (Begin now)
+leaving closed taken came st (Pass now d) = step st (Pass now d)
+leaving closed taken came st TakeMissing = step st TakeMissing
+leaving closed taken came st TakeDiscontinuity = step st TakeDiscontinuity
+leaving closed taken came st TakeStalled = step st TakeStalled
+
+-- Close empties the queue
+abbrev pub drops : Host
+drops = with (leaving (λ st. with-queue-pos st 238) (λ st. st) (λ i a st. st))
+
+-- a Take leaves what it handed out in the queue
+abbrev pub twice : Host
+twice = with (leaving (λ st. st) (λ st. with-queue-pos st 0) (λ i a st. st))
+
+-- ---- the tracker
+
+-- the session, with another tracker after each Arrival
+abbrev pub tracking : (ℕ → Answer → SeqTracker → SeqTracker) → Host
+tracking f =
+    with (leaving (λ st. st) (λ st. st) (λ i a st.
+      record {
+        session =
+          with-receiver (st .session)
+            (with-tracker (st .session .receiver) (f (beAt 4 (i .octets) 0) a (st .session .receiver .tracker)));
+        samples = st .samples }))
+
+abbrev pub onStale : SeqTracker → SeqTracker → SeqEvent → SeqTracker
+onStale stale other Stale = stale
+onStale stale other InOrder = other
+onStale stale other (Gap k) = other
+onStale stale other Restart = other
+
+-- a tracker after a Stale, and after any other answer to a datagram
+abbrev pub byAnswer : SeqTracker → SeqTracker → SeqTracker → Answer → SeqTracker
+byAnswer stale malformed other (heard event m) = onStale stale other event
+byAnswer stale malformed other (done word) = malformed
+byAnswer stale malformed other (refused number) = other
+byAnswer stale malformed other (took n) = other
+byAnswer stale malformed other (slot held) = other
+byAnswer stale malformed other (flag stalled) = other
+
+-- Stale moves the expected number
+abbrev pub advances : Host
+advances = tracking (λ count a t. byAnswer (record { expected = Next (after count); «stale_run» = t .«stale_run» }) t t a)
+
+-- the eighth stale one is told Stale
+abbrev pub bears : Host
+bears = tracking (λ count a t. byAnswer (record { expected = t .expected; «stale_run» = min (t .«stale_run») 6 }) t t a)
+
+-- a malformed datagram empties the stale run
+abbrev pub resets : Host
+resets = tracking (λ count a t. byAnswer t (record { expected = t .expected; «stale_run» = 0 }) t a)
+
+-- ---- none of them passes
+
+pub record Refuted : Type 1 where
+  pub invents : ¬ Meets invents
+  pub inventsOutages : ¬ TellsAll inventsOutages
+  pub hushes : ¬ Meets hushes
+  pub restarts : ¬ Meets restarts
+  pub drops : ¬ Meets drops
+  pub twice : ¬ Meets twice
+  pub advances : ¬ Meets advances
+  pub bears : ¬ Meets bears
+  pub resets : ¬ Meets resets
