@@ -1,4 +1,7 @@
 -- Demand 3's proof in layers, what follows from it, and the worked cases.
+pub mod Answers
+pub mod Rows
+pub mod Refusals
 pub mod Numbers
 pub mod Verdict
 pub mod Stretches
@@ -12,3 +15,4 @@ pub mod Demand3
 pub mod Numbering
 pub mod Integers
 pub mod Wrong
+pub mod Edges

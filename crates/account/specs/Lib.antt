@@ -22,7 +22,9 @@ pub mod Book
 pub mod Ledger
 pub mod Demand3
 pub mod Exact
+pub mod Refusals
 pub mod Numbering
 pub mod Integers
 pub mod Lists
 pub mod Wrong
+pub mod Edges

@@ -12,7 +12,7 @@ offsetOf RxSpecific = 1
 offsetOf TxSpecific = 2
 offsetOf HighPriority = 3
 
--- where the settings are accepted nothing wraps: `destination-plain` of proofs/Settings
+-- where the settings are accepted nothing wraps: `destination-plain` of proofs/Rows
 abbrev pub destinationOf : ℕ → ℕ → ℕ
 destinationOf port offset = (port + offset) % 2 ^ 16
 
