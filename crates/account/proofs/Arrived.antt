@@ -15,7 +15,8 @@ use Rattle.wire.specs.declared.sequence.SeqEvent.{SeqEvent}
 use Rattle.wire.specs.declared.sequence.SeqEvent.the-variants.{InOrder, Gap, Stale, Restart}
 use Rattle.account.specs.Answer.{Answer, done, heard}
 use Rattle.account.specs.Answer as Answer
-use Rattle.account.specs.Parts.{with-common, with-last-reading}
+use Rattle.account.specs.Parts.{with-receiver}
+use Rattle.account.specs.Pass.{shut}
 use Rattle.attenuator.specs.Controller as Controller
 use Rattle.wire.specs.Status.{overloaded, overloadTold}
 use Rattle.account.specs.declared.session.Attenuation.{Attenuation}
@@ -28,7 +29,7 @@ use Rattle.account.specs.Host.{Incoming, Arrival, Step}
 use Rattle.account.specs.State.{State, left, waits, waitingIn, replied, keeping}
 use Rattle.account.specs.Sample.{pairs}
 use Rattle.wire.specs.Iq as Iq
-use Rattle.account.specs.Arrival.{eventOf, restartOf, leftOut, accepted, told, heardCommon, hear, heardAs, heardIq, overload, heardStatus, heardMalformed, arrived, atReading, route, arrival}
+use Rattle.account.specs.Arrival.{eventOf, restartOf, leftOut, accepted, told, heardCommon, hear, heardAs, heardIq, overload, heardStatus, oneMore, heardMalformed, arrived, atReading, route, arrival}
 use Rattle.account.specs.Whole.{fits, fitsBelow, verdict}
 use Rattle.account.specs.Book.{Quiet, Came, brought, news, Book, fitIn, belowIn, limitIn, restartIn, missingIn, missing, judged}
 use Rattle.account.specs.Ledger.{Tells, tells, Entry, samplesOf}
@@ -40,7 +41,7 @@ use Rattle.account.proofs.Numbers.{next}
 use Rattle.account.proofs.Verdict.{Says, says, Rules, rules, stale-is}
 use Rattle.account.proofs.Stretches.{Lost, Right, judged-of}
 use Rattle.account.proofs.Pairs.{datagram-size, datagram-samples, none-past}
-use Rattle.account.proofs.Same.{sentAs, waitingOf, Same, Keeps, Kept, refused-keeps, Untold, untold-keeps, like}
+use Rattle.account.proofs.Same.{sentAs, waitingOf, Same, Keeps, Kept, still}
 use Rattle.account.proofs.Sends.{stepped-steady}
 use Rattle.account.proofs.Observes.{tells-in, accepted-tracker, stale-tracker}
 
@@ -133,37 +134,12 @@ module _ (s : Settings) (b : Book) (st : State) (n : ℕ) (h : Same s b st) (i :
     seen-is : seen ≡ ev
     seen-is = rw (h .tracker) (tells-in (b .expected) (limitIn s b (i .now)) (b .run) n near)
 
-    -- accepted
-    taken-in : (m : ℕ) → m ≡ missingOf ev (restartIn s b i n) → isStale ev ≡ false →
-        Enters count (keeping (Iq.samplesOf (i .octets)) (told (heard ev m) d
-        (record { common = heardCommon ev (st .session .common); receiver = accepted (st .session .common .settings .«sample_rate_hz») (st .session .receiver) (i .now) count ev m })))
-    unfolding accepted waitingIn
-    taken-in m told f =
-        let below : belowIn (b .expected) (b .run) n ≡ false = sym late-is ∙ f in
-        record {
-          same =
-              rw below
-              (record {
-                settings = h .settings;
-                tracker =
-                    accepted-tracker (st .session .receiver .tracker) (limitIn s b (i .now)) count (ap isStale seen-is ∙ f)
-                    ∙ ap (λ (k : ℕ). expecting k) (next n);
-                accepted = refl;
-                taken = h .taken;
-                window = rw (h .window) (ap (λ (k : ℕ). used (b .window) k) (exact-of m told count .1));
-                size = datagram-size (i .octets);
-              });
-          right = right-of m told count;
-          exact = exact-of m told count;
-          flow = rw below (sym (append-nil (pairs (Iq.samplesOf (i .octets)))));
-          answered = refl;
-        }
-
-    -- stale
-    left-out : isStale ev ≡ true →
-        Enters count (keeping (st .samples) (told (heard ev 0) d (record { common = heardCommon ev (st .session .common); receiver = leftOut (st .session .receiver) (i .now) count })))
-    unfolding leftOut waitingIn
-    left-out t =
+    hears : (m : ℕ) → m ≡ missingOf ev (restartIn s b i n) → Enters count (hear st i d count ev m)
+    unfolding hear accepted leftOut waitingIn
+    hears m told =
+        pick-either _ _ _ (Enters count)
+        -- stale
+        (λ t.
         let below : belowIn (b .expected) (b .run) n ≡ true = sym late-is ∙ t in
         let none-missing : 0 ≡ missingOf ev (restartIn s b i n) = sym (stale-misses-none ev (restartIn s b i n) t) in
         record {
@@ -183,11 +159,28 @@ module _ (s : Settings) (b : Book) (st : State) (n : ℕ) (h : Same s b st) (i :
           exact = exact-of 0 none-missing count;
           flow = rw below empty;
           answered = refl;
+        })
+        -- accepted
+        λ f.
+        let below : belowIn (b .expected) (b .run) n ≡ false = sym late-is ∙ f in
+        record {
+          same =
+              rw below
+              (record {
+                settings = h .settings;
+                tracker =
+                    accepted-tracker (st .session .receiver .tracker) (limitIn s b (i .now)) count (ap isStale seen-is ∙ f)
+                    ∙ ap (λ (k : ℕ). expecting k) (next n);
+                accepted = refl;
+                taken = h .taken;
+                window = rw (h .window) (ap (λ (k : ℕ). used (b .window) k) (exact-of m told count .1));
+                size = datagram-size (i .octets);
+              });
+          right = right-of m told count;
+          exact = exact-of m told count;
+          flow = rw below (sym (append-nil (pairs (Iq.samplesOf (i .octets)))));
+          answered = refl;
         }
-
-    hears : (m : ℕ) → m ≡ missingOf ev (restartIn s b i n) → Enters count (hear st i d count ev m)
-    unfolding hear
-    hears m told = pick-either (isStale ev) _ _ (Enters count) (λ t. left-out t) (λ f. taken-in m told f)
 
     heard-as : Enters count (heardAs st i d count ev)
     unfolding heardAs
@@ -218,38 +211,59 @@ never-refused st i d count = pick-either _ _ _ (λ (x : Step State). (tells (x .
 
 module _ (s : Settings) (b : Book) (st : State) (n : ℕ) (h : Same s b st) (i : Incoming) (d : List ℕ) (empty : waitingOf st ≡ []) where
   iq-keeps : (k : ℕ) → found s i ≡ iq k → Kept s b st (Arrival i d) n (heardIq st i d k)
-  iq-keeps k p lies =
-      let x = heardIq st i d k in
-      let w : news s (Arrival i d) ((tells (x .reply .answer)) .refusal) ≡ Came i k = rw (never-refused st i d k, p) refl in
-      let l : Each Lies (the s b st n h i d empty (x .reply .answer) k ∷ []) = rw w at lies in
-      let e : Enters s b st n h i d empty k x = enters-at s b st n h i d empty k (l .0 .0) (l .0 .1) in
+  iq-keeps k p =
       record {
-        same = rw w (e .same);
-        right = rw w (e .right, tt);
-        also = rw w (e .exact);
-        flow = rw (w, empty) (e .flow);
+        keep = λ lies.
+            let x = heardIq st i d k in
+            let w : news s (Arrival i d) ((tells (x .reply .answer)) .refusal) ≡ Came i k = rw (never-refused st i d k, p) refl in
+            let l : Each Lies (the s b st n h i d empty (x .reply .answer) k ∷ []) = rw w at lies in
+            let e : Enters s b st n h i d empty k x = enters-at s b st n h i d empty k (l .0 .0) (l .0 .1) in
+            record {
+              same = rw w (e .same);
+              right = rw w (e .right, tt);
+              also = rw w (e .exact);
+              flow = rw (w, empty) (e .flow);
+            };
       }
 
-module _ (s : Settings) (b : Book) (st : State) (n : ℕ) (h : Same s b st) (i : Incoming) (d : List ℕ) (empty : waitingOf st ≡ []) where
-  abbrev Mute : Step Session → Type 0
-  Mute = Untold s b st n h
+module _ (s : Settings) (b : Book) (st : State) (n : ℕ) (h : Same s b st) (i : Incoming) (d : List ℕ) where
+  abbrev Fine : Step State → Type 0
+  Fine = Kept s b st (Arrival i d) n
 
-  status-untold : (c : Common) (a : Attenuation) (bits : Told) → c .settings ≡ s → Mute (overload (with-common (st .session) c) i d a bits)
-  unfolding overload
-  status-untold c Off bits e = like s b st n h (done Answer.ignored) [] d c _ _ _ refl refl e
-  status-untold c (On controller) (gives []) e = like s b st n h (done Answer.ignored) [] d c _ _ _ refl refl e
-  status-untold c (On controller) (refused k vs) e = like s b st n h (done Answer.ignored) [] d c _ _ _ refl refl e
-  status-untold c (On controller) (gives (bits ∷ vs)) e =
-      like s b st n h (done Answer.status) _ _ _ _ _ _ refl refl (stepped-steady (i .later) (Controller.observed controller (overloaded bits) (i .now)) c ∙ e)
-
-  malformed-untold : (c : Common) → c .settings ≡ s → Mute (heardMalformed (with-common (st .session) c) d)
-  unfolding heardMalformed
-  malformed-untold c e =
-      pick-either _ _ _ Mute (λ _. like s b st n h (done Answer.malformedLimit) [] d _ _ _ _ refl refl e) λ _.
-      like s b st n h (done Answer.malformed) [] d _ _ _ _ refl refl e
-
+  -- of the session with the later reading, what is not I/Q is nothing to the book
   abbrev later : State
   later = atReading st (i .later)
+
+  abbrev Mute : Step Session → Type 0
+  Mute x = Fine (keeping (st .samples) x)
+
+  module _ (quiet : (t : Bool) → news s (Arrival i d) t ≡ Quiet) where
+    ignored-keeps : Mute (told (done Answer.ignored) d (later .session))
+    ignored-keeps = still s b st n h (Arrival i d) _ (quiet false) refl refl refl (h .settings) refl refl refl refl refl refl
+
+    status-keeps : (a : Attenuation) (bits : Told) → Mute (overload (later .session) i d a bits)
+    unfolding overload
+    status-keeps Off bits = still s b st n h (Arrival i d) _ (quiet false) refl refl refl (h .settings) refl refl refl refl refl refl
+    status-keeps (On controller) (gives []) = still s b st n h (Arrival i d) _ (quiet false) refl refl refl (h .settings) refl refl refl refl refl refl
+    status-keeps (On controller) (refused k vs) = still s b st n h (Arrival i d) _ (quiet false) refl refl refl (h .settings) refl refl refl refl refl refl
+    status-keeps (On controller) (gives (bits ∷ vs)) =
+        still s b st n h (Arrival i d) _ (quiet false) refl refl refl (stepped-steady _ _ _ ∙ h .settings) refl refl refl refl refl refl
+
+    one-more-keeps : Mute (told (done Answer.malformed) d (oneMore (later .session)))
+    unfolding oneMore
+    one-more-keeps =
+        still s b st n h (Arrival i d) (keeping (st .samples) (told (done Answer.malformed) d (oneMore (later .session)))) (quiet false) refl refl refl (h .settings) refl refl refl refl refl refl
+
+    limit-keeps : Mute (told (done Answer.malformedLimit) d (with-receiver (oneMore (later .session)) (shut (oneMore (later .session) .receiver))))
+    unfolding oneMore
+    limit-keeps =
+        still s b st n h (Arrival i d)
+        (keeping (st .samples) (told (done Answer.malformedLimit) d (with-receiver (oneMore (later .session)) (shut (oneMore (later .session) .receiver)))))
+        (quiet false) refl refl refl (h .settings) refl refl refl refl refl refl
+
+    malformed-keeps : Mute (heardMalformed (later .session) d)
+    unfolding heardMalformed
+    malformed-keeps = pick-either _ _ _ Mute (λ _. limit-keeps) (λ _. one-more-keeps)
 
   same-later : Same s b later
   same-later =
@@ -259,37 +273,31 @@ module _ (s : Settings) (b : Book) (st : State) (n : ℕ) (h : Same s b st) (i :
   quiet-of p e q true = refl
   quiet-of p e q false = ap (brought i) e ∙ q
 
-  routed-keeps : (p : Routed) → found s i ≡ p → Kept s b st (Arrival i d) n (arrived later i d p)
+  routed-keeps : waitingOf st ≡ [] → (p : Routed) → found s i ≡ p → Fine (arrived later i d p)
   unfolding arrived heardStatus
-  routed-keeps (iq k) e =
-      λ lies.
-      let x = iq-keeps s b later n same-later i d empty k e lies in
-      record { same = x .same; right = x .right; also = x .also; flow = x .flow }
-  routed-keeps status e = untold-keeps s b st n h (Arrival i d) _ (quiet-of status e refl) refl (status-untold _ _ _ (h .settings))
-  routed-keeps ignored e =
-      untold-keeps s b st n h (Arrival i d) _ (quiet-of ignored e refl) refl (like s b st n h (done Answer.ignored) [] d _ _ _ _ refl refl (h .settings))
-  routed-keeps malformed e = untold-keeps s b st n h (Arrival i d) _ (quiet-of malformed e refl) refl (malformed-untold _ (h .settings))
+  routed-keeps empty (iq k) e =
+      record {
+        keep = λ lies.
+            let x = iq-keeps s b later n same-later i d empty k e .keep lies in
+            record { same = x .same; right = x .right; also = x .also; flow = x .flow };
+      }
+  routed-keeps empty status e = status-keeps (quiet-of status e refl) _ _
+  routed-keeps empty ignored e = ignored-keeps (quiet-of ignored e refl)
+  routed-keeps empty malformed e = malformed-keeps (quiet-of malformed e refl)
 
-  pub arrives : Kept s b st (Arrival i d) n (arrived later i d (route st i))
-  arrives = routed-keeps (route st i) (ap (λ (x : Settings). found x i) (sym (h .settings)))
-
-module _ (s : Settings) (b : Book) (st : State) (n : ℕ) (h : Same s b st) (i : Incoming) (d : List ℕ) where
   nothing-waits : waits (st .session .receiver) ≡ false → waitingOf st ≡ []
   unfolding waits left waitingIn
   nothing-waits e =
       let z = ltb-false 0 (238 - st .session .receiver .«queue_pos») e in
       none-past (st .session .receiver .«queue_pos») (st .samples) (h .size) (omega arith)
 
-  abbrev Fine : Step State → Type 0
-  Fine = Kept s b st (Arrival i d) n
-
   pub arrival-keeps : Fine (arrival st i d)
   unfolding arrival
   arrival-keeps =
-      pick-either _ _ _ Fine (λ _. refused-keeps s b st n h (Arrival i d) 10 d [] refl) λ _.
-      pick-either _ _ _ Fine (λ _. refused-keeps s b st n h (Arrival i d) 11 d [] refl) λ _.
-      pick-either _ _ _ Fine (λ _. refused-keeps s b st n h (Arrival i d) 12 d [] refl) λ none.
-      pick-either _ _ _ Fine (λ _. refused-keeps s b st n h (Arrival i d) 13 d [] refl) λ _.
-      pick-either _ _ _ Fine (λ _. refused-keeps s b st n h (Arrival i d) 14 d [] refl) λ _.
-      pick-either _ _ _ Fine (λ _. refused-keeps s b st n h (Arrival i d) 15 d [] refl) λ _.
-      arrives s b st n h i d (nothing-waits none)
+      pick-either _ _ _ Fine (λ _. still s b st n h (Arrival i d) _ refl refl refl refl (h .settings) refl refl refl refl refl refl) λ _.
+      pick-either _ _ _ Fine (λ _. still s b st n h (Arrival i d) _ refl refl refl refl (h .settings) refl refl refl refl refl refl) λ _.
+      pick-either _ _ _ Fine (λ _. still s b st n h (Arrival i d) _ refl refl refl refl (h .settings) refl refl refl refl refl refl) λ none.
+      pick-either _ _ _ Fine (λ _. still s b st n h (Arrival i d) _ refl refl refl refl (h .settings) refl refl refl refl refl refl) λ _.
+      pick-either _ _ _ Fine (λ _. still s b st n h (Arrival i d) _ refl refl refl refl (h .settings) refl refl refl refl refl refl) λ _.
+      pick-either _ _ _ Fine (λ _. still s b st n h (Arrival i d) _ refl refl refl refl (h .settings) refl refl refl refl refl refl) λ _.
+      routed-keeps (nothing-waits none) (route st i) (ap (λ (x : Settings). found x i) (sym (h .settings)))

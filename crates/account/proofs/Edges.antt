@@ -1,4 +1,4 @@
--- 01's edges, M, wire's among them, as one list, and the worked cases of the shared rules: by computation. Assumes nothing.
+-- 01's edges, M, wire's among them, as one list, by computation. Assumes nothing.
 use Prim.Native.Nat.{ℕ}
 use mathlib.Core.Path.{_≡_, refl, sym, ap, _∙_}
 use mathlib.Core.List.{List, [], _∷_, _++_, map}
@@ -6,7 +6,7 @@ use lib.Ieee.{lt, eq, ofInt, mul, div, add, sub, round}
 use Rattle.octets.specs.Pick.{pick}
 use Rattle.double.specs.Whole.{natOf, rounded, isWhole}
 use Rattle.double.specs.Seconds.{secondsOf}
-use Rattle.double.specs.Stream.{plausible, jumpLimit, restartMissing, accountTime, coveredTime, belowHalf}
+use Rattle.double.specs.Stream.{plausible, jumpLimit, restartMissing, belowHalf}
 use Rattle.wire.specs.Search.{first}
 use Rattle.wire.specs.Rate.{rateAt, isRate, khzOf}
 use Rattle.wire.specs.Centre.{wholeCentre, belowNyquist}
@@ -14,7 +14,7 @@ use Rattle.wire.specs.Iq.{headerTold, rows}
 use Rattle.wire.specs.Sequence as Sequence
 use Rattle.wire.proofs.Edges as Wire
 use Rattle.account.specs.Settings.{settingsTold, accepts}
-use Rattle.account.specs.Rules.{begun, refilled, used, elapsed, capped, walked, backlog, uncovered, outage, missingOf, added, pendingAfter}
+use Rattle.account.specs.Rules.{begun, refilled, used, elapsed, capped, outage, missingOf, added, pendingAfter}
 use Rattle.account.specs.Routing.{byOffset, routed}
 use Rattle.account.specs.State.{left, waits}
 use Rattle.account.specs.Open.{freshCommon, freshReceiver, fresh, opened}
@@ -23,8 +23,7 @@ use Rattle.account.specs.Arrival.{eventOf, restartOf, accepted, hear, he
 use Rattle.account.specs.Take.{handed, handOut, takeOut}
 use Rattle.account.specs.Drain.{takeMissing, takeDiscontinuity}
 use Rattle.account.specs.Session.{step}
-use Rattle.account.specs.Whole.{fitsAbove, fitsBelow, fits}
-use Rattle.account.specs.Edges.{Given, number, sample, event, Edge, edge, sessionEdges, ruleCases, routeCases, fitCases, listCases}
+use Rattle.account.specs.Edges.{Given, number, sample, event, Edge, edge, sessionEdges}
 
 abbrev pub Hold : List Edge → Type 0
 Hold es = map (λ (e : Edge). e .worked) es ≡ map (λ (e : Edge). e .is) es
@@ -62,24 +61,3 @@ lifted-hold es h rest k =
 
 pub edges-hold : Hold edges
 edges-hold = lifted-hold Wire.edges Wire.edges-hold sessionEdges session-edges
-
--- ---- worked cases
-
-pub rules-hold : Hold ruleCases
-unfolding pick elapsed jumpLimit plausible natOf secondsOf add mul div sub rounded round ofInt accountTime coveredTime restartMissing begun refilled used
-    backlog walked uncovered outage added Sequence.observed Sequence.meant Sequence.less Sequence.after Sequence.zeroRestarts
-rules-hold = refl
-
-pub routes-hold : Hold routeCases
-unfolding pick routed byOffset headerTold rows
-routes-hold = refl
-
-pub fits-hold : Hold fitCases
-unfolding fits fitsAbove fitsBelow
-fits-hold = refl
-
-pub lists-hold : Hold listCases
-unfolding pick freshCommon step arrival arrived routed byOffset headerTold rows heardIq heardAs hear eventOf restartOf capped accepted used missingOf waits left
-    Sequence.observed Sequence.meant Sequence.less Sequence.after Sequence.zeroRestarts elapsed jumpLimit plausible natOf secondsOf ofInt add sub mul div
-    restartMissing rounded round outage uncovered backlog walked accountTime coveredTime fits fitsAbove fitsBelow
-lists-hold = refl

@@ -16,3 +16,4 @@ pub mod Numbering
 pub mod Integers
 pub mod Wrong
 pub mod Edges
+pub mod Worked

@@ -156,7 +156,8 @@ module _ (s : Settings) where
 
 -- of any host
 pub numbered : (h : Host) (s : Settings) (now : ℕ) (calls : List Call) → AllOfOctets calls → Numbered h s now calls
-numbered h s now calls p =
-    (number s h (blank now) (h .opened s now) calls,
-    calls-of s h (blank now) (h .opened s now) calls,
-    lies s h (blank now) (h .opened s now) calls p tt)
+numbered h s now calls p = (
+  number s h (blank now) (h .opened s now) calls,
+  calls-of s h (blank now) (h .opened s now) calls,
+  lies s h (blank now) (h .opened s now) calls p tt,
+)

@@ -1,5 +1,6 @@
 -- A refusal changes nothing, whatever the state and the call. Assumes nothing.
 use mathlib.Core.Path.{_≡_, refl}
+use mathlib.Core.Bool.{false}
 use mathlib.Core.List.{List, [], _∷_}
 use Prim.Native.Nat.{ℕ}
 use lib.Ieee.{Float}
@@ -7,101 +8,112 @@ use Rattle.octets.proofs.Picks.{pick-either}
 use Rattle.wire.specs.Answer.{Told, gives, refused}
 use Rattle.account.specs.Routing.{Routed, iq, status, ignored, malformed}
 use Rattle.account.specs.Host.{Incoming, Call, Begin, Pass, Arrival, Take, Close, TakeMissing, TakeDiscontinuity, TakeStalled, Step}
-use Rattle.account.specs.State.{State, refuse, keeping}
+use Rattle.account.specs.State.{State, keeping}
 use Rattle.account.specs.Begin.{begin}
-use Rattle.account.specs.Pass.{passed, pass}
+use Rattle.account.specs.Pass.{stallSoft, stallHard, passed, pass}
 use Rattle.account.specs.Arrival.{hear, heardAs, heardIq, overload, heardStatus, heardMalformed, arrived, arrival}
 use Rattle.account.specs.Take.{handOut, takeOut}
-use Rattle.account.specs.Close.{close}
+use Rattle.account.specs.Close.{stop, close}
 use Rattle.account.specs.Drain.{takeMissing, takeDiscontinuity, takeStalled}
 use Rattle.account.specs.Session.{step}
-use Rattle.account.specs.Refusals.{lentPackets, lentBuffer, Unchanged, Guarded}
+use Rattle.account.specs.Refusals.{lentPackets, lentBuffer, Guarded}
+use Rattle.account.specs.Ledger.{tells}
 use Rattle.account.specs.declared.session.Attenuation.{Attenuation}
 use Rattle.account.specs.declared.session.Attenuation.the-variants.{Off, On}
 use Rattle.account.specs.declared.session.Session.{Session}
 
 module _ (st : State) (c : Call) where
+  -- a refusal
+  same : (x : Step State) → x .state ≡ st → x .reply .streams ≡ [] → x .reply .packets ≡ lentPackets c → x .reply .buffer ≡ lentBuffer c → Guarded st c x
+  same x s w p b = record { guard = λ t. record { state = s; streams = w; packets = p; buffer = b } }
+
+  -- any other answer
+  other : (x : Step State) → (tells (x .reply .answer)) .refusal ≡ false → Guarded st c x
+  other x e = record { guard = λ t. absurd (rw e at t) }
+
   abbrev Fine : Step State → Type 0
   Fine = Guarded st c
 
-  refuses : (k : ℕ) → Fine (refuse k (lentPackets c) (lentBuffer c) st)
-  refuses k t = record { state = refl; streams = refl; packets = refl; buffer = refl }
+  abbrev FineBy : Step Session → Type 0
+  FineBy x = Guarded st c (keeping (st .samples) x)
 
-  -- an answer that is no refusal
-  abbrev Answers : Step Session → Type 0
-  Answers x = Fine (keeping (st .samples) x)
-
-begin-guarded : (st : State) (now : ℕ) → Fine st (Begin now) (keeping (st .samples) (begin (st .session) now))
+begin-guarded : (st : State) (now : ℕ) → FineBy st (Begin now) (begin (st .session) now)
 unfolding begin
 begin-guarded st now =
-    pick-either _ _ _ (Answers st (Begin now)) (λ _. refuses st (Begin now) 10) λ _.
-    pick-either _ _ _ (Answers st (Begin now)) (λ _. refuses st (Begin now) 11) λ _ t.
-    absurd t
+    pick-either _ _ _ (FineBy st (Begin now)) (λ _. same st (Begin now) _ refl refl refl refl) λ _.
+    pick-either _ _ _ (FineBy st (Begin now)) (λ _. same st (Begin now) _ refl refl refl refl) λ _.
+    other st (Begin now) _ refl
 
-pass-guarded : (st : State) (now : ℕ) (d : List ℕ) → Fine st (Pass now d) (keeping (st .samples) (pass (st .session) now d))
-unfolding pass passed
+passed-guarded : (st : State) (at : Session) (now : ℕ) (d : List ℕ) → FineBy st (Pass now d) (passed at now d)
+unfolding passed stallSoft stallHard
+passed-guarded st at now d =
+    pick-either _ _ _ (FineBy st (Pass now d)) (λ _. other st (Pass now d) _ refl) λ _.
+    pick-either _ _ _ (FineBy st (Pass now d)) (λ _. other st (Pass now d) _ refl) λ _.
+    pick-either _ _ _ (FineBy st (Pass now d)) (λ _. other st (Pass now d) _ refl) λ _.
+    other st (Pass now d) _ refl
+
+pass-guarded : (st : State) (now : ℕ) (d : List ℕ) → FineBy st (Pass now d) (pass (st .session) now d)
+unfolding pass
 pass-guarded st now d =
-    pick-either _ _ _ (Answers st (Pass now d)) (λ _. refuses st (Pass now d) 10) λ _.
-    pick-either _ _ _ (Answers st (Pass now d)) (λ _. refuses st (Pass now d) 11) λ _.
-    pick-either _ _ _ (Answers st (Pass now d)) (λ _. refuses st (Pass now d) 15) λ _.
-    pick-either _ _ _ (Answers st (Pass now d)) (λ _ t. absurd t) λ _.
-    pick-either _ _ _ (Answers st (Pass now d)) (λ _ t. absurd t) λ _.
-    pick-either _ _ _ (Answers st (Pass now d)) (λ _ t. absurd t) λ _ t.
-    absurd t
+    pick-either _ _ _ (FineBy st (Pass now d)) (λ _. same st (Pass now d) _ refl refl refl refl) λ _.
+    pick-either _ _ _ (FineBy st (Pass now d)) (λ _. same st (Pass now d) _ refl refl refl refl) λ _.
+    pick-either _ _ _ (FineBy st (Pass now d)) (λ _. same st (Pass now d) _ refl refl refl refl) λ _.
+    passed-guarded st _ now d
 
--- what was not refused is answered otherwise, whatever state it is asked of
+-- an arrival that was not refused is answered otherwise, whatever state it is asked of
 module _ (st : State) (i : Incoming) (d : List ℕ) where
   abbrev There : Step State → Type 0
-  There = Fine st (Arrival i d)
+  There = Guarded st (Arrival i d)
 
   iq-guarded : (at : State) (count : ℕ) → There (heardIq at i d count)
   unfolding heardIq heardAs hear
-  iq-guarded at count = pick-either _ _ _ There (λ _ t. absurd t) (λ _ t. absurd t)
+  iq-guarded at count = pick-either _ _ _ There (λ _. other st (Arrival i d) _ refl) (λ _. other st (Arrival i d) _ refl)
 
   overload-guarded : (at : State) (a : Attenuation) (bits : Told) → There (keeping (at .samples) (overload (at .session) i d a bits))
   unfolding overload
-  overload-guarded at Off bits = λ t. absurd t
-  overload-guarded at (On controller) (gives []) = λ t. absurd t
-  overload-guarded at (On controller) (gives (bits ∷ vs)) = λ t. absurd t
-  overload-guarded at (On controller) (refused k vs) = λ t. absurd t
+  overload-guarded at Off bits = other st (Arrival i d) _ refl
+  overload-guarded at (On controller) (gives []) = other st (Arrival i d) _ refl
+  overload-guarded at (On controller) (gives (bits ∷ vs)) = other st (Arrival i d) _ refl
+  overload-guarded at (On controller) (refused k vs) = other st (Arrival i d) _ refl
 
   malformed-guarded : (at : State) → There (keeping (at .samples) (heardMalformed (at .session) d))
   unfolding heardMalformed
-  malformed-guarded at = pick-either _ _ _ (λ (x : Step Session). There (keeping (at .samples) x)) (λ _ t. absurd t) (λ _ t. absurd t)
+  malformed-guarded at =
+      pick-either _ _ _ (λ (x : Step Session). There (keeping (at .samples) x)) (λ _. other st (Arrival i d) _ refl) (λ _. other st (Arrival i d) _ refl)
 
   arrived-guarded : (at : State) (p : Routed) → There (arrived at i d p)
   unfolding arrived heardStatus
   arrived-guarded at (iq count) = iq-guarded at count
   arrived-guarded at status = overload-guarded at _ _
-  arrived-guarded at ignored = λ t. absurd t
+  arrived-guarded at ignored = other st (Arrival i d) _ refl
   arrived-guarded at malformed = malformed-guarded at
 
   arrival-guarded : There (arrival st i d)
   unfolding arrival
   arrival-guarded =
-      pick-either _ _ _ There (λ _. refuses st (Arrival i d) 10) λ _.
-      pick-either _ _ _ There (λ _. refuses st (Arrival i d) 11) λ _.
-      pick-either _ _ _ There (λ _. refuses st (Arrival i d) 12) λ _.
-      pick-either _ _ _ There (λ _. refuses st (Arrival i d) 13) λ _.
-      pick-either _ _ _ There (λ _. refuses st (Arrival i d) 14) λ _.
-      pick-either _ _ _ There (λ _. refuses st (Arrival i d) 15) λ _.
+      pick-either _ _ _ There (λ _. same st (Arrival i d) _ refl refl refl refl) λ _.
+      pick-either _ _ _ There (λ _. same st (Arrival i d) _ refl refl refl refl) λ _.
+      pick-either _ _ _ There (λ _. same st (Arrival i d) _ refl refl refl refl) λ _.
+      pick-either _ _ _ There (λ _. same st (Arrival i d) _ refl refl refl refl) λ _.
+      pick-either _ _ _ There (λ _. same st (Arrival i d) _ refl refl refl refl) λ _.
+      pick-either _ _ _ There (λ _. same st (Arrival i d) _ refl refl refl refl) λ _.
       arrived-guarded _ _
 
 take-guarded : (st : State) (now : ℕ) (buffer : List Float) → Fine st (Take now buffer) (takeOut st now buffer)
 unfolding takeOut handOut
 take-guarded st now buffer =
-    pick-either _ _ _ (Fine st (Take now buffer)) (λ _. refuses st (Take now buffer) 10) λ _.
-    pick-either _ _ _ (Fine st (Take now buffer)) (λ _. refuses st (Take now buffer) 11) λ _.
-    pick-either _ _ _ (Fine st (Take now buffer)) (λ _. refuses st (Take now buffer) 16) λ _.
-    pick-either _ _ _ (Fine st (Take now buffer)) (λ _. refuses st (Take now buffer) 17) λ _ t.
-    absurd t
+    pick-either _ _ _ (Fine st (Take now buffer)) (λ _. same st (Take now buffer) _ refl refl refl refl) λ _.
+    pick-either _ _ _ (Fine st (Take now buffer)) (λ _. same st (Take now buffer) _ refl refl refl refl) λ _.
+    pick-either _ _ _ (Fine st (Take now buffer)) (λ _. same st (Take now buffer) _ refl refl refl refl) λ _.
+    pick-either _ _ _ (Fine st (Take now buffer)) (λ _. same st (Take now buffer) _ refl refl refl refl) λ _.
+    other st (Take now buffer) _ refl
 
-close-guarded : (st : State) (d : List ℕ) → Fine st (Close d) (keeping (st .samples) (close (st .session) d))
-unfolding close
+close-guarded : (st : State) (d : List ℕ) → FineBy st (Close d) (close (st .session) d)
+unfolding close stop
 close-guarded st d =
-    pick-either _ _ _ (Answers st (Close d)) (λ _. refuses st (Close d) 10) λ _.
-    pick-either _ _ _ (Answers st (Close d)) (λ _. refuses st (Close d) 15) λ _ t.
-    absurd t
+    pick-either _ _ _ (FineBy st (Close d)) (λ _. same st (Close d) _ refl refl refl refl) λ _.
+    pick-either _ _ _ (FineBy st (Close d)) (λ _. same st (Close d) _ refl refl refl refl) λ _.
+    other st (Close d) _ refl
 
 -- of every state, those that no list reaches among them
 pub refused-unchanged : (st : State) (c : Call) → Guarded st c (step st c)
@@ -111,6 +123,6 @@ refused-unchanged st (Pass now d) = pass-guarded st now d
 refused-unchanged st (Arrival i d) = arrival-guarded st i d
 refused-unchanged st (Take now buffer) = take-guarded st now buffer
 refused-unchanged st (Close d) = close-guarded st d
-refused-unchanged st TakeMissing = λ t. absurd t
-refused-unchanged st TakeDiscontinuity = λ t. absurd t
-refused-unchanged st TakeStalled = λ t. absurd t
+refused-unchanged st TakeMissing = other st TakeMissing _ refl
+refused-unchanged st TakeDiscontinuity = other st TakeDiscontinuity _ refl
+refused-unchanged st TakeStalled = other st TakeStalled _ refl

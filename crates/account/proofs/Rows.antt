@@ -48,7 +48,8 @@ accepted-plain s =
       rate = not-not _ rate;
       whole = not-not _ whole;
       below = not-not _ below;
-      port = ltb-false 65524 (s .port) port }
+      port = ltb-false 65524 (s .port) port;
+    }
 
 -- and everything else is accepted, with the rate in kHz
 pub plain-accepted : (s : Settings) → Plain s → settingsTold s ≡ gives (khzOf (s .«sample_rate_hz») ∷ [])

@@ -57,8 +57,8 @@ module _ (s : Settings) where
       pub flow : gave c (st .reply) ++ waiting (st .state) ≡ waiting at ++ samplesOf (accepted (entry b (news s c ((tells (st .reply .answer)) .refusal)) n (tells (st .reply .answer))))
 
     -- the same, where its arrival lies as the demand says
-    abbrev pub Kept : Book → S → Call → ℕ → Step S → Type 0
-    Kept b at c n st = Each Lies (entry b (news s c ((tells (st .reply .answer)) .refusal)) n (tells (st .reply .answer))) → Keeps b at c n st
+    pub record Kept (b : Book) (at : S) (c : Call) (n : ℕ) (st : Step S) : Type 0 where
+      pub keep : Each Lies (entry b (news s c ((tells (st .reply .answer)) .refusal)) n (tells (st .reply .answer))) → Keeps b at c n st
 
   -- ---- the whole list
 
@@ -106,7 +106,7 @@ module _ (s : Settings) where
     whole : (b : Book) (at : h .State) (cs : List Sent) → R b at → Each Lies (ledger s b (lines h at cs)) → Whole h P b at cs
     whole b at [] r l = record { chain = tt; also = tt; flow = sym (append-nil (h .waiting at)) }
     whole b at (c ∷ cs) r l =
-        let k : Keeps (h .State) (h .waiting) R P b at (c .call) (c .number) (h .step at (c .call)) = keeps b at (c .number) r (c .call) (each-front Lies (here h b at c cs) (rest h b at c cs) l) in
+        let k : Keeps (h .State) (h .waiting) R P b at (c .call) (c .number) (h .step at (c .call)) = keeps b at (c .number) r (c .call) .keep (each-front Lies (here h b at c cs) (rest h b at c cs) l) in
         more h b at c cs R P k (whole (book h b at c cs) ((h .step at (c .call)) .state) cs (k .same) (each-back Lies (here h b at c cs) (rest h b at c cs) l))
 
     module _ (now : ℕ) (at-first : R (blank now) (h .opened s now)) (none-waits : h .waiting (h .opened s now) ≡ []) (calls : List Sent) where

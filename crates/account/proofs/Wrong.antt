@@ -30,10 +30,10 @@ use Rattle.account.specs.declared.settings.Settings.{Settings}
 use Rattle.account.specs.State.{left, waits, waitingIn}
 use Rattle.account.specs.Open.{freshCommon, freshReceiver, fresh, opened}
 use Rattle.account.specs.Begin.{orAt, begunBy, begin}
-use Rattle.account.specs.Arrival.{eventOf, restartOf, leftOut, heardMalformed, hear, heardAs, heardIq, arrived, arrival}
+use Rattle.account.specs.Arrival.{eventOf, restartOf, leftOut, oneMore, heardMalformed, hear, heardAs, heardIq, arrived, arrival}
 use Rattle.account.specs.Arrival as Arrival
 use Rattle.account.specs.Take.{handed, handOut, takeOut}
-use Rattle.account.specs.Close.{close}
+use Rattle.account.specs.Close.{stop, close}
 use Rattle.account.specs.Host.{Begin, Close}
 use Rattle.account.specs.Session.{step}
 use Rattle.account.specs.Whole.{Near, fitsAbove, fitsBelow, fits}
@@ -89,46 +89,47 @@ pub refuted : Refuted
 unfolding pick accepts settingsTold isRate rateAt first eq ofInt wholeCentre belowNyquist isWhole lt opened fresh freshCommon freshReceiver step
     begin begunBy orAt begun refilled arrival arrived routed byOffset headerTold rows heardIq heardAs hear eventOf capped observed meant less after zeroRestarts
     elapsed jumpLimit plausible natOf secondsOf add mul div waits left Arrival.accepted used missingOf takeOut handOut handed fits fitsAbove fitsBelow
-    restartMissing rounded sub outage restartOf waitingIn close leftOut heardMalformed
+    restartMissing rounded sub outage restartOf waitingIn close stop leftOut heardMalformed oneMore
 refuted =
     record {
       invents = λ m.
-        let a = m usual 0 gap usual-accepted ((refl, tt), ((refl, near 6 7 (omega arith) (omega arith)), tt)) in
-        let z : _≡_ {A = ℕ} 952 714 = sum-of _ _ (a .sums [] _ (_ ∷ []) [] (refl, inl refl, (gap-apart 1, tt))) in
-        omega arith;
+          let a = m usual 0 gap usual-accepted ((refl, tt), ((refl, near 6 7 (omega arith) (omega arith)), tt)) in
+          let z : _≡_ {A = ℕ} 952 714 = sum-of _ _ (a .sums [] _ (_ ∷ []) [] (refl, inl refl, (gap-apart 1, tt))) in
+          omega arith;
       inventsOutages = λ m.
-        let a = m usual 0 (readAt 0 5 ++ readAt 0 0) usual-accepted ((refl, tt), ((refl, near 6 0 (omega arith) (omega arith)), tt)) in
-        let z : _≡_ {A = ℕ} 48000 0 = a .1 .1 .1 .1 .0 .1 in
-        omega arith;
+          let a = m usual 0 (readAt 0 5 ++ readAt 0 0) usual-accepted ((refl, tt), ((refl, near 6 0 (omega arith) (omega arith)), tt)) in
+          let z : _≡_ {A = ℕ} 48000 0 = a .1 .1 .1 .1 .0 .1 in
+          omega arith;
       hushes = λ m.
-        let a = m usual 0 gap usual-accepted ((refl, tt), ((refl, near 6 7 (omega arith) (omega arith)), tt)) in
-        let z : _≡_ {A = ℕ} 476 714 = sum-of _ _ (a .sums [] _ (_ ∷ []) [] (refl, inl refl, (gap-apart 1, tt))) in
-        omega arith;
+          let a = m usual 0 gap usual-accepted ((refl, tt), ((refl, near 6 7 (omega arith) (omega arith)), tt)) in
+          let z : _≡_ {A = ℕ} 476 714 = sum-of _ _ (a .sums [] _ (_ ∷ []) [] (refl, inl refl, (gap-apart 1, tt))) in
+          omega arith;
       -- the second fits
       restarts = λ m.
-        let a = m usual 0 (readAt 0 5 ++ readAt 0 6) usual-accepted ((refl, tt), ((refl, near 6 6 (omega arith) (omega arith)), tt)) in
-        a .each .1 .0 .restart .0 refl tt;
+          let a = m usual 0 (readAt 0 5 ++ readAt 0 6) usual-accepted ((refl, tt), ((refl, near 6 6 (omega arith) (omega arith)), tt)) in
+          a .each .1 .0 .restart .0 refl tt;
       drops = λ m.
-        let a = m usual 0 (plain (Begin 0) ∷ arrive 0 5 ∷ plain (Close (replicate 2888 0)) ∷ []) usual-accepted ((refl, tt), tt) in
-        let z : _≡_ {A = ℕ} 0 238 = sym (ap length (none-past 238 (Iq.samplesOf (datagram 5)) (datagram-size (datagram 5)) refl)) ∙ handed-of _ _ _ _ a in
-        omega arith;
+          let a = m usual 0 (plain (Begin 0) ∷ arrive 0 5 ∷ plain (Close (replicate 2888 0)) ∷ []) usual-accepted ((refl, tt), tt) in
+          let z : _≡_ {A = ℕ} 0 238 = sym (ap length (none-past 238 (Iq.samplesOf (datagram 5)) (datagram-size (datagram 5)) refl)) ∙ handed-of _ _ _ _ a in
+          omega arith;
       twice = λ m.
-        let a = m usual 0 (readAt 0 5) usual-accepted ((refl, tt), tt) in
-        let z : _≡_ {A = ℕ} 476 238 = sym (doubled (Iq.samplesOf (datagram 5)) silence (datagram-size (datagram 5))) ∙ handed-of _ _ _ _ a in
-        omega arith;
+          let a = m usual 0 (readAt 0 5) usual-accepted ((refl, tt), tt) in
+          let z : _≡_ {A = ℕ} 476 238 = sym (doubled (Iq.samplesOf (datagram 5)) silence (datagram-size (datagram 5))) ∙ handed-of _ _ _ _ a in
+          omega arith;
       -- 101 is expected, also after 90
       advances = λ m.
-        let a = m usual 0 (readAt 0 100 ++ (plain (Begin 0) ∷ arrive 0 90 ∷ arrive 0 101 ∷ [])) usual-accepted
-              ((refl, tt), ((refl, near 101 90 (omega arith) (omega arith)), ((refl, near 101 101 (omega arith) (omega arith)), tt))) in
-        let z : _≡_ {A = ℕ} 2856 476 = sum-of _ _ (a .sums [] _ (_ ∷ _ ∷ []) [] (refl, inl refl, (stale-apart, (gap-apart 10, tt)))) in
-        omega arith;
+          let a = m usual 0 (readAt 0 100 ++ (plain (Begin 0) ∷ arrive 0 90 ∷ arrive 0 101 ∷ [])) usual-accepted
+          ((refl, tt), ((refl, near 101 90 (omega arith) (omega arith)), ((refl, near 101 101 (omega arith) (omega arith)), tt))) in
+          let z : _≡_ {A = ℕ} 2856 476 = sum-of _ _ (a .sums [] _ (_ ∷ _ ∷ []) [] (refl, inl refl, (stale-apart, (gap-apart 10, tt)))) in
+          omega arith;
       -- eight stale ones
       bears = λ m.
-        let a = m usual 0 (readAt 0 100 ++ (plain (Begin 0) ∷ arrive 0 100 ∷ arrive 0 100 ∷ arrive 0 100 ∷ arrive 0 100 ∷ arrive 0 100 ∷ arrive 0 100 ∷ arrive 0 100 ∷ arrive 0 100 ∷ [])) usual-accepted
-              ((refl, tt), (late, (late, (late, (late, (late, (late, (late, (late, tt))))))))) in
-        stale-apart (a .each .1 .1 .1 .1 .1 .1 .1 .1 .0 .restart .1 (λ t. t));
+          let a = m usual 0 (readAt 0 100 ++ (plain (Begin 0) ∷ arrive 0 100 ∷ arrive 0 100 ∷ arrive 0 100 ∷ arrive 0 100 ∷ arrive 0 100 ∷ arrive 0 100 ∷ arrive 0 100 ∷ arrive 0 100 ∷ [])) usual-accepted
+          ((refl, tt), (late, (late, (late, (late, (late, (late, (late, (late, tt))))))))) in
+          stale-apart (a .each .1 .1 .1 .1 .1 .1 .1 .1 .0 .restart .1 (λ t. t));
       -- the same, with a malformed one before the eighth
       resets = λ m.
-        let a = m usual 0 (readAt 0 100 ++ (plain (Begin 0) ∷ arrive 0 100 ∷ arrive 0 100 ∷ arrive 0 100 ∷ arrive 0 100 ∷ arrive 0 100 ∷ arrive 0 100 ∷ arrive 0 100 ∷ noise 0 ∷ arrive 0 100 ∷ [])) usual-accepted
-              ((refl, tt), (late, (late, (late, (late, (late, (late, (late, (late, tt))))))))) in
-        stale-apart (a .each .1 .1 .1 .1 .1 .1 .1 .1 .0 .restart .1 (λ t. t)) }
+          let a = m usual 0 (readAt 0 100 ++ (plain (Begin 0) ∷ arrive 0 100 ∷ arrive 0 100 ∷ arrive 0 100 ∷ arrive 0 100 ∷ arrive 0 100 ∷ arrive 0 100 ∷ arrive 0 100 ∷ noise 0 ∷ arrive 0 100 ∷ [])) usual-accepted
+          ((refl, tt), (late, (late, (late, (late, (late, (late, (late, (late, tt))))))))) in
+          stale-apart (a .each .1 .1 .1 .1 .1 .1 .1 .1 .0 .restart .1 (λ t. t));
+    }

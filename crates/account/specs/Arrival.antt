@@ -119,17 +119,17 @@ unfoldable pub heardStatus : Session → Incoming → List ℕ → Step Session
 heardStatus s i d = overload s i d (s .common .attenuator .attenuation) (overloadTold (i .octets))
 
 -- one more malformed: the consecutive count saturates
-abbrev pub malformedCommon : Common → Common
-malformedCommon c =
-    with-health (with-consecutive-malformed c (min (c .«consecutive_malformed» + 1) 4294967295)) (countMalformed (c .health))
+unfoldable pub oneMore : Session → Session
+oneMore s =
+    let c = s .common in
+    with-common s (with-health (with-consecutive-malformed c (min (c .«consecutive_malformed» + 1) 4294967295)) (countMalformed (c .health)))
 
 -- with the consecutive count at or past the limit (0 acts as 1) the read closes
 unfoldable pub heardMalformed : Session → List ℕ → Step Session
 heardMalformed s d =
-    let c = malformedCommon (s .common) in
-    pick (leb (c .settings .«max_consecutive_malformed») (c .«consecutive_malformed»))
-    (told (done malformedLimit) d (record { common = c; receiver = shut (s .receiver) }))
-    (told (done malformed) d (with-common s c))
+    pick (leb (s .common .settings .«max_consecutive_malformed») (oneMore s .common .«consecutive_malformed»))
+    (told (done malformedLimit) d (with-receiver (oneMore s) (shut (oneMore s .receiver))))
+    (told (done malformed) d (oneMore s))
 
 unfoldable pub arrived : State → Incoming → List ℕ → Routed → Step State
 arrived st i d (Routing.iq count) = heardIq st i d count

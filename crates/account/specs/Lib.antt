@@ -28,3 +28,4 @@ pub mod Integers
 pub mod Lists
 pub mod Wrong
 pub mod Edges
+pub mod Worked

@@ -41,7 +41,8 @@ usualAt port =
       «soft_after» = 4500000000;
       «stall_after» = 10000000000;
       «park_window» = 8192;
-      «max_consecutive_malformed» = 10000 }
+      «max_consecutive_malformed» = 10000;
+    }
 
 abbrev pub usual : Settings
 usual = usualAt 1024

@@ -18,18 +18,21 @@ use Rattle.account.specs.declared.session.Session.{Session}
 abbrev pub shut : Receiver → Receiver
 shut r = with-reading r (with-entered (r .reading) Unset)
 
--- the stall flag is set, delivering goes off and the read closes; the Take time stays
-abbrev pub stalled : Receiver → Receiver
-stalled r = with-stall (shut r) (reported (r .stall))
+-- soft: the stall flag is set, delivering goes off and the read closes; the Take time stays
+unfoldable pub stallSoft : Session → List ℕ → Step Session
+stallSoft s d =
+    replied (done softStall) [] d [] (with-receiver s (with-stall (shut (s .receiver)) (reported (s .receiver .stall))))
+
+-- hard: the read closes
+unfoldable pub stallHard : Session → List ℕ → Step Session
+stallHard s d = replied (done hardStall) [] d [] (with-receiver s (shut (s .receiver)))
 
 -- after every refusal, of a session whose last reading is now
 unfoldable pub passed : Session → ℕ → List ℕ → Step Session
 passed s now d =
     pick (waits (s .receiver)) (replied (done ready) [] d [] s)
-    (pick (isDue (s .receiver .stall) (quietSince (s .receiver)) now (s .common .settings .«stall_after»))
-    (replied (done softStall) [] d [] (with-receiver s (stalled (s .receiver))))
-    (pick (leb (s .common .settings .«stall_after») (now - quietSince (s .receiver)))
-    (replied (done hardStall) [] d [] (with-receiver s (shut (s .receiver))))
+    (pick (isDue (s .receiver .stall) (quietSince (s .receiver)) now (s .common .settings .«stall_after»)) (stallSoft s d)
+    (pick (leb (s .common .settings .«stall_after») (now - quietSince (s .receiver))) (stallHard s d)
     (wrote (done sent) s d (duePackets now (s .common)))))
 
 unfoldable pub pass : Session → ℕ → List ℕ → Step Session

@@ -36,5 +36,5 @@ pub record Unchanged {S : Type 0} (at : S) (c : Call) (x : Step S) : Type 0 wher
   pub buffer : x .reply .buffer ≡ lentBuffer c
 
 -- where the answer is a refusal
-abbrev pub Guarded : {S : Type 0} → S → Call → Step S → Type 0
-Guarded at c x = T ((tells (x .reply .answer)) .refusal) → Unchanged at c x
+pub record Guarded {S : Type 0} (at : S) (c : Call) (x : Step S) : Type 0 where
+  pub guard : T ((tells (x .reply .answer)) .refusal) → Unchanged at c x

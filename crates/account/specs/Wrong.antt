@@ -27,9 +27,10 @@ answering a r = record { answer = a; streams = r .streams; packets = r .packets;
 abbrev pub telling : (Expected → Answer → Answer) → Host
 telling f =
     with (λ st c.
-      record {
-        reply = answering (f (st .session .receiver .tracker .expected) (step st c .reply .answer)) (step st c .reply);
-        state = step st c .state })
+    record {
+      reply = answering (f (st .session .receiver .tracker .expected) (step st c .reply .answer)) (step st c .reply);
+      state = step st c .state;
+    })
 
 abbrev pub onEvent : (SeqEvent → ℕ → Answer) → Answer → Answer
 onEvent f (heard event missing) = f event missing
@@ -80,7 +81,7 @@ abbrev pub with-queue-pos : State → ℕ → State
 with-queue-pos st at =
     record {
       session =
-        with-receiver (st .session)
+          with-receiver (st .session)
           (record {
             tracker = st .session .receiver .tracker;
             «queue_pos» = at;
@@ -90,8 +91,10 @@ with-queue-pos st at =
             «last_valid_iq» = st .session .receiver .«last_valid_iq»;
             «last_accepted_iq» = st .session .receiver .«last_accepted_iq»;
             «read_returned» = st .session .receiver .«read_returned»;
-            stall = st .session .receiver .stall });
-      samples = st .samples }
+            stall = st .session .receiver .stall;
+          });
+      samples = st .samples;
+    }
 
 -- the state after a Close, a Take or an Arrival, made by one of these
 abbrev pub leaving : (State → State) → (State → State) → (Incoming → Answer → State → State) → State → Call → Step State
@@ -119,11 +122,12 @@ twice = with (leaving (λ st. st) (λ st. with-queue-pos st 0) (λ i a st. st))
 abbrev pub tracking : (ℕ → Answer → SeqTracker → SeqTracker) → Host
 tracking f =
     with (leaving (λ st. st) (λ st. st) (λ i a st.
-      record {
-        session =
+    record {
+      session =
           with-receiver (st .session)
-            (with-tracker (st .session .receiver) (f (beAt 4 (i .octets) 0) a (st .session .receiver .tracker)));
-        samples = st .samples }))
+          (with-tracker (st .session .receiver) (f (beAt 4 (i .octets) 0) a (st .session .receiver .tracker)));
+      samples = st .samples;
+    }))
 
 abbrev pub onStale : SeqTracker → SeqTracker → SeqEvent → SeqTracker
 onStale stale other Stale = stale
