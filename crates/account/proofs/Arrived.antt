@@ -1,38 +1,33 @@
 -- An arrival: the session tells what the book judges, and the two go on saying the same. Assumes nothing.
-use Prim.Native.Nat.{ℕ, _+_, _-_, _*_, _%_}
+use Prim.Native.Nat.{ℕ, _+_, _-_, _%_}
 use mathlib.Core.Path.{_≡_, refl, sym, _∙_, ap, subst}
 use mathlib.Core.Bool.{Bool, true, false}
 use mathlib.Core.List.{List, [], _∷_, append-nil}
 use mathlib.Core.Option.{Option, some, none}
 use native.Mathlib.Omega.{arith}
-use lib.Dec.{ltb}
 use borrow.Author.Tests.{ltb-false}
 use Rattle.octets.proofs.Picks.{pick-either}
-use Rattle.double.specs.Stream.{jumpLimit, restartMissing}
 use Rattle.wire.specs.Answer.{Told, gives, refused}
-use Rattle.wire.specs.Sequence.{after, observed}
+use Rattle.wire.specs.Sequence.{observed}
 use Rattle.wire.specs.declared.sequence.SeqEvent.{SeqEvent}
 use Rattle.wire.specs.declared.sequence.SeqEvent.the-variants.{InOrder, Gap, Stale, Restart}
 use Rattle.account.specs.Answer.{Answer, done, heard}
 use Rattle.account.specs.Answer as Answer
 use Rattle.account.specs.Parts.{with-receiver}
 use Rattle.account.specs.Pass.{shut}
-use Rattle.attenuator.specs.Controller as Controller
-use Rattle.wire.specs.Status.{overloaded, overloadTold}
 use Rattle.account.specs.declared.session.Attenuation.{Attenuation}
 use Rattle.account.specs.declared.session.Attenuation.the-variants.{Off, On}
-use Rattle.account.specs.declared.session.Common.{Common}
 use Rattle.account.specs.declared.session.Session.{Session}
-use Rattle.account.specs.Rules.{used, elapsed, capped, outage, missingOf, expecting, isStale}
+use Rattle.account.specs.Rules.{used, capped, missingOf, expecting, isStale}
 use Rattle.account.specs.Routing.{Routed, iq, status, ignored, malformed, routed}
 use Rattle.account.specs.Host.{Incoming, Arrival, Step}
-use Rattle.account.specs.State.{State, left, waits, waitingIn, replied, keeping}
+use Rattle.account.specs.State.{State, left, waits, waitingIn, keeping}
 use Rattle.account.specs.Sample.{pairs}
 use Rattle.wire.specs.Iq as Iq
-use Rattle.account.specs.Arrival.{eventOf, restartOf, leftOut, accepted, told, heardCommon, hear, heardAs, heardIq, overload, heardStatus, oneMore, heardMalformed, arrived, atReading, route, arrival}
+use Rattle.account.specs.Arrival.{eventOf, restartOf, leftOut, accepted, told, hear, heardAs, heardIq, overload, heardStatus, oneMore, heardMalformed, arrived, atReading, route, arrival}
 use Rattle.account.specs.Whole.{fits, fitsBelow, verdict}
-use Rattle.account.specs.Book.{Quiet, Came, brought, news, Book, fitIn, belowIn, limitIn, restartIn, missingIn, missing, judged}
-use Rattle.account.specs.Ledger.{Tells, tells, Entry, samplesOf}
+use Rattle.account.specs.Book.{Quiet, Came, brought, news, Book, fitIn, belowIn, limitIn, restartIn, missingIn, judged}
+use Rattle.account.specs.Ledger.{tells, Entry, samplesOf}
 use Rattle.account.specs.Ledger as Ledger
 use Rattle.account.specs.Demand3.{Each, NearIn, Lies}
 use Rattle.account.specs.Exact.{verdictIn, Exact}
@@ -41,7 +36,7 @@ use Rattle.account.proofs.Numbers.{next}
 use Rattle.account.proofs.Verdict.{Says, says, Rules, rules, stale-is}
 use Rattle.account.proofs.Stretches.{Lost, Right, judged-of}
 use Rattle.account.proofs.Pairs.{datagram-size, datagram-samples, none-past}
-use Rattle.account.proofs.Same.{sentAs, waitingOf, Same, Keeps, Kept, still}
+use Rattle.account.proofs.Same.{sentAs, waitingOf, Same, Kept, still}
 use Rattle.account.proofs.Sends.{stepped-steady}
 use Rattle.account.proofs.Observes.{tells-in, accepted-tracker, stale-tracker}
 

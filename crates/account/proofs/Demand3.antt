@@ -1,7 +1,7 @@
 -- Demand 3 of the session that the definitions make: for all accepted settings, opening readings, lists of calls and numberings, and
 -- whatever 476 f32 are lent beside it at first. Assumes nothing.
 use Prim.Native.Nat.{ℕ}
-use mathlib.Core.Path.{_≡_, refl, sym, ap, _∙_}
+use mathlib.Core.Path.{_≡_, refl}
 use mathlib.Core.Bool.{Bool, true, false}
 use mathlib.Core.List.{List, []}
 use lib.ListN.{length}
@@ -16,7 +16,6 @@ use Rattle.account.specs.Session.{step, openedWith, session}
 use Rattle.account.specs.Book.{Book, blank}
 use Rattle.account.specs.Demand3.{Meets}
 use Rattle.account.specs.Exact.{Exact, TellsAll}
-use Rattle.account.specs.declared.session.Session.{Session}
 use Rattle.account.specs.declared.settings.Settings.{Settings}
 use Rattle.account.proofs.Pairs.{none-past}
 use Rattle.account.proofs.Simulate.{meets, all-lines}

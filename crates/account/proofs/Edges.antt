@@ -1,6 +1,5 @@
 -- 01's edges, M, wire's among them, as one list, by computation. Assumes nothing.
-use Prim.Native.Nat.{ℕ}
-use mathlib.Core.Path.{_≡_, refl, sym, ap, _∙_}
+use mathlib.Core.Path.{_≡_, refl, sym, _∙_}
 use mathlib.Core.List.{List, [], _∷_, _++_, map}
 use lib.Ieee.{lt, eq, ofInt, mul, div, add, sub, round}
 use Rattle.octets.specs.Pick.{pick}

@@ -1,7 +1,10 @@
--- Demand 3's proof in layers, what follows from it, and the worked cases.
+-- Answers and refusals, demand 3's proof in layers, what stands beside it, and the cases.
+
 pub mod Answers
 pub mod Rows
 pub mod Refusals
+pub mod Traces
+-- whole numbers alone, then lists of arrivals, then any host, then this session call by call
 pub mod Numbers
 pub mod Verdict
 pub mod Stretches

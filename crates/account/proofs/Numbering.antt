@@ -1,22 +1,21 @@
 -- The demand's premise can always be met: every list of calls has whole numbers that lie as the demand says. Assumes nothing.
-use Prim.Native.Nat.{ℕ, suc, zero, _+_, _-_, _*_, _%_, _^_, _≤_, _<_}
-use mathlib.Core.Path.{_≡_, refl, sym, _∙_, ap, subst}
+use Prim.Native.Nat.{ℕ, _+_, _-_, _*_, _%_, _≤_, _<_}
+use mathlib.Core.Path.{_≡_, refl, ap}
 use mathlib.Core.Bool.{Bool, true, false, cond}
 use mathlib.Core.List.{List, [], _∷_, _++_}
 use mathlib.Core.Option.{Option, some, none}
 use native.Mathlib.Omega.{arith}
 use native.Mathlib.Numerals.{add-one}
 use lib.ListN.{length, getD}
-use Rattle.octets.specs.Number.{beAt}
 use Rattle.octets.proofs.Numbers.{beAt-lt}
 use Rattle.octets.proofs.Picks.{pick-either}
 use Rattle.wire.specs.Answer.{Told}
 use Rattle.wire.specs.Iq.{rows, headerTold}
 use Rattle.account.specs.Routing.{Routed, iq, status, ignored, malformed, byHeader, byOffset, routed}
-use Rattle.account.specs.Host.{Incoming, Call, Begin, Pass, Arrival, Take, Close, TakeMissing, TakeDiscontinuity, TakeStalled, Reply, Step, Host, trace}
+use Rattle.account.specs.Host.{Incoming, Call, Begin, Pass, Arrival, Take, Close, TakeMissing, TakeDiscontinuity, TakeStalled, Reply, Host, trace}
 use Rattle.account.specs.Whole.{Near}
-use Rattle.account.specs.Book.{News, Quiet, Began, Took, Came, brought, newsOf, news, Book, blank, late, noted}
-use Rattle.account.specs.Ledger.{Sent, callsOf, Tells, tells, Line, lineOf, paired, Entry, entry, ledger}
+use Rattle.account.specs.Book.{News, Quiet, Began, Took, Came, brought, news, Book, blank, late, noted}
+use Rattle.account.specs.Ledger.{Sent, callsOf, Tells, tells, paired, Entry, entry, ledger}
 use Rattle.account.specs.Demand3.{Each, NearIn, Lies}
 use Rattle.account.specs.Numbering.{OfOctets, AllOfOctets, Numbered}
 use Rattle.account.specs.declared.sender.Sender.{Sender}

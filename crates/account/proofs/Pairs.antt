@@ -4,10 +4,9 @@ use mathlib.Core.Path.{_≡_, refl, sym, ap, _∙_}
 use mathlib.Core.List.{List, [], _∷_, _++_, append-nil}
 use native.Mathlib.Omega.{arith}
 use lib.ListN.{length, take, drop, length-take, length-drop, drop-of-length-le}
-use lib.Seq.{take-at, drop-drop, take-nil, drop-nil}
+use lib.Seq.{take-at, drop-drop}
 use lib.Ieee.{Float}
 use Rattle.octets.specs.Written.{written}
-use Rattle.octets.specs.Table.{tab}
 use Rattle.octets.proofs.Writes.{written-front}
 use Rattle.octets.proofs.Tables.{length-tab}
 use Rattle.wire.specs.Iq as Iq

@@ -1,14 +1,14 @@
 -- What the settings' rows leave: accepted is none of them, and then no port wraps. Assumes nothing.
-use Prim.Native.Nat.{ℕ, _+_, _%_, _^_, _≤_}
-use mathlib.Core.Path.{_≡_, refl, sym, _∙_}
+use Prim.Native.Nat.{_+_, _≤_}
+use mathlib.Core.Path.{_≡_, refl, sym}
 use mathlib.Core.Bool.{Bool, true, false, not}
-use mathlib.Core.List.{List, [], _∷_}
+use mathlib.Core.List.{[], _∷_}
 use native.Mathlib.Omega.{arith}
-use lib.Dec.{T, ltb, eqb}
+use lib.Dec.{T}
 use borrow.Author.Tests.{ltb-false, le-ltb, eqb-true, eq-eqb}
 use Rattle.octets.specs.Pick.{pick}
 use Rattle.octets.proofs.Picks.{pick-either}
-use Rattle.wire.specs.Answer.{Told, gives, refused}
+use Rattle.wire.specs.Answer.{Told, gives}
 use Rattle.wire.specs.Centre.{wholeCentre, belowNyquist}
 use Rattle.wire.specs.Rate.{isRate, khzOf}
 use Rattle.account.specs.Settings.{settingsTold, isGiven, accepts}

@@ -1,34 +1,26 @@
 -- The session and the book say the same of the stream, and every call but an arrival keeps that. Assumes nothing.
 use Prim.Native.Nat.{ℕ, _-_, _/_, _%_, min}
 use mathlib.Core.Path.{_≡_, refl, sym, ap, _∙_}
-use mathlib.Core.Bool.{Bool, true, false}
 use mathlib.Core.List.{List, [], append-nil}
 use mathlib.Core.Option.{Option, some, none}
 use native.Mathlib.Omega.{arith}
 use lib.ListN.{length}
-use lib.Dec.{ltb, leb, eqb}
 use lib.Ieee.{Float}
 use Rattle.octets.proofs.Picks.{pick-either}
 use Rattle.wire.specs.declared.sequence.SeqTracker.{SeqTracker}
 use Rattle.wire.specs.declared.sequence.Expected.the-variants.{Nothing, Next}
-use Rattle.account.specs.Answer.{Answer, refused, done, ready, softStall, hardStall, sent, closed}
 use Rattle.account.specs.Sample.{Sample, pairs}
-use Rattle.account.specs.Parts.{with-common, with-last-reading, with-reading, with-pending, with-stall}
+use Rattle.account.specs.Parts.{with-common, with-last-reading}
 use Rattle.account.specs.Host.{Call, Begin, Pass, Take, Close, TakeMissing, TakeDiscontinuity, TakeStalled, Step}
-use Rattle.account.specs.State.{State, left, waitingIn, notIdle, fell, replied, refuse, keeping}
+use Rattle.account.specs.State.{State, left, waitingIn, keeping}
 use Rattle.account.specs.Begin.{begunBy, begin}
 use Rattle.account.specs.Pass.{stallSoft, stallHard, passed, pass}
 use Rattle.account.specs.Take.{handed, handOut, takeOut}
 use Rattle.account.specs.Close.{stop, close}
 use Rattle.account.specs.Drain.{takeMissing, takeDiscontinuity, takeStalled}
-use Rattle.account.specs.Sending.{duePackets, stopPackets}
-use Rattle.account.specs.Book.{Quiet, newsOf, news, Book}
+use Rattle.account.specs.Book.{Quiet, news, Book}
 use Rattle.account.specs.Ledger.{tells, gave}
 use Rattle.account.specs.Exact.{Exact}
-use Rattle.stall.specs.declared.StallEpisode.{StallEpisode}
-use Rattle.account.specs.declared.receiver.Reading.{Reading}
-use Rattle.account.specs.declared.receiver.Pending.{Pending}
-use Rattle.account.specs.declared.session.Common.{Common}
 use Rattle.account.specs.declared.session.Session.{Session}
 use Rattle.account.specs.declared.settings.Settings.{Settings}
 use Rattle.account.proofs.Pairs.{handed-out}

@@ -1,7 +1,7 @@
 -- What is sent leaves the settings as they are. Assumes nothing.
 use Prim.Native.Nat.{ℕ}
 use mathlib.Core.Path.{_≡_, refl, _∙_}
-use mathlib.Core.Bool.{Bool, true, false}
+use mathlib.Core.Bool.{Bool, false}
 use Rattle.octets.proofs.Picks.{pick-either}
 use Rattle.attenuator.specs.Controller as Controller
 use Rattle.attenuator.specs.declared.AttenuationStep.{AttenuationStep}

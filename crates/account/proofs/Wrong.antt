@@ -1,27 +1,25 @@
 -- Hosts that demand 3 rules out, each by one list of calls. Assumes nothing.
 use Prim.Native.Nat.{ℕ, _+_, _*_, _-_, _≤_, _<_}
 use mathlib.Core.Path.{_≡_, refl, sym, ap, _∙_}
-use mathlib.Core.Logic.{inl, inr}
-use mathlib.Core.Bool.{Bool, true, false}
+use mathlib.Core.Logic.{inl}
 use mathlib.Core.Option.{some}
 use mathlib.Core.List.{List, [], _∷_, _++_, append-nil}
 use native.Mathlib.Omega.{arith}
 use lib.ListN.{length, take, drop, length-append, replicate}
 use lib.Dec.{T}
-use lib.Ieee.{Float, lt, eq, ofInt, mul, div, add, sub, round}
-use lib.Ieee.Scale.{finite}
+use lib.Ieee.{Float, lt, eq, ofInt, mul, div, add, sub}
 use Rattle.octets.specs.Pick.{pick}
 use Rattle.octets.specs.Written.{written}
 use Rattle.double.specs.Whole.{natOf, rounded, isWhole}
 use Rattle.double.specs.Seconds.{secondsOf}
-use Rattle.double.specs.Stream.{plausible, jumpLimit, restartMissing, accountTime, coveredTime, belowHalf}
+use Rattle.double.specs.Stream.{plausible, jumpLimit, restartMissing}
 use Rattle.wire.specs.Search.{first}
 use Rattle.wire.specs.Rate.{rateAt, isRate}
 use Rattle.wire.specs.Centre.{wholeCentre, belowNyquist}
 use Rattle.wire.specs.Iq.{headerTold, rows}
 use Rattle.wire.specs.Iq as Iq
 use Rattle.wire.specs.Sequence.{after, less, zeroRestarts, meant, observed}
-use Rattle.wire.specs.declared.sequence.SeqEvent.the-variants.{InOrder, Gap, Stale, Restart}
+use Rattle.wire.specs.declared.sequence.SeqEvent.the-variants.{Gap, Stale, Restart}
 use Rattle.account.specs.Settings.{settingsTold, accepts}
 use Rattle.account.specs.Rules.{begun, refilled, used, elapsed, capped, missingOf, outage}
 use Rattle.account.specs.Routing.{byOffset, routed}
@@ -38,7 +36,7 @@ use Rattle.account.specs.Host.{Begin, Close}
 use Rattle.account.specs.Session.{step}
 use Rattle.account.specs.Whole.{Near, fitsAbove, fitsBelow, fits}
 use Rattle.account.specs.Ledger.{Sent, Line, handedOut, Entry, accepted, samplesIn, samplesOf, missingTold, highest}
-use Rattle.account.specs.Demand3.{Meets, Agrees, Sums}
+use Rattle.account.specs.Demand3.{Agrees, Sums}
 use Rattle.account.specs.Wrong.{Refuted}
 use Rattle.account.proofs.Pairs.{pairs-count, datagram-size, datagram-samples, none-past, handed-out}
 use Rattle.account.specs.Lists.{usual, datagram, silence, plain, arrive, noise, readAt}

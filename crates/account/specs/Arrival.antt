@@ -1,6 +1,5 @@
 -- Arrival: malformed, ignored, status or valid I/Q. Definitions only.
 use Prim.Native.Nat.{ℕ, _+_, min}
-use mathlib.Core.Bool.{Bool, true, false}
 use mathlib.Core.List.{List, [], _∷_}
 use lib.ListN.{length}
 use lib.Dec.{ltb, leb}

@@ -1,6 +1,5 @@
 -- Begin. Definitions only.
 use Prim.Native.Nat.{ℕ}
-use mathlib.Core.Bool.{true}
 use mathlib.Core.List.{[]}
 use Rattle.octets.specs.Pick.{pick}
 use Rattle.account.specs.Answer as Answer

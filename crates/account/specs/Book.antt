@@ -2,7 +2,6 @@
 -- without the session, and whether it was refused. Definitions only.
 use Prim.Native.Nat.{ℕ, _+_, _-_, _*_, _%_}
 use mathlib.Core.Bool.{Bool, true, false, cond}
-use mathlib.Core.List.{List}
 use mathlib.Core.Option.{Option, some, none}
 use Rattle.double.specs.Stream.{jumpLimit, restartMissing}
 use Rattle.account.specs.Rules.{begun, used, elapsed, outage}

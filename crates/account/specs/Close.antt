@@ -6,7 +6,7 @@ use lib.ListN.{length}
 use lib.Dec.{ltb}
 use Rattle.octets.specs.Pick.{pick}
 use Rattle.octets.specs.Written.{written}
-use Rattle.account.specs.Answer.{Answer, done, closed}
+use Rattle.account.specs.Answer.{done, closed}
 use Rattle.account.specs.Host.{Step}
 use Rattle.account.specs.State.{replied, refuse}
 use Rattle.account.specs.Sending.{stopPackets}

@@ -1,7 +1,7 @@
 -- The three drains: they return and empty pending_missing, pending_discontinuity and the stall flag, after Close too. Definitions only.
 use mathlib.Core.List.{[]}
 use Rattle.stall.specs.Episode.{taken}
-use Rattle.account.specs.Answer.{Answer, slot, flag}
+use Rattle.account.specs.Answer.{slot, flag}
 use Rattle.account.specs.Host.{Step}
 use Rattle.account.specs.State.{replied}
 use Rattle.account.specs.Parts.{with-receiver, with-pending, with-missing, with-discontinuity, with-stall}

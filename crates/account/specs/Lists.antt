@@ -8,10 +8,10 @@ use lib.IntN.{pos}
 use Rattle.octets.specs.Number.{be}
 use Rattle.wire.specs.Board.{boardInfo}
 use Rattle.wire.specs.declared.board.BoardId.the-variants.{Number}
-use Rattle.account.specs.Host.{Incoming, Call, Begin, Pass, Arrival, Take, Close}
+use Rattle.account.specs.Host.{Incoming, Call, Begin, Arrival, Take}
 use Rattle.account.specs.Ledger.{Sent}
 use Rattle.account.specs.declared.sender.Sender.{Sender}
-use Rattle.account.specs.declared.sender.Sender.the-variants.{V4, V6}
+use Rattle.account.specs.declared.sender.Sender.the-variants.{V4}
 use Rattle.account.specs.declared.settings.Settings.{Settings}
 use Rattle.account.specs.declared.settings.AttenuationChoice.the-variants.{Unsaid}
 

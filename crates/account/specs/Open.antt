@@ -1,11 +1,10 @@
 -- Open: a session just opened, and the one beside a refusal. Definitions only.
 use Prim.Native.Nat.{ℕ}
 use mathlib.Core.Bool.{Bool, true, false}
-use mathlib.Core.List.{List, [], _∷_}
-use lib.Ieee.{Float, fin}
+use mathlib.Core.List.{[], _∷_}
+use lib.Ieee.{fin}
 use lib.IntN.{pos}
 use Rattle.octets.specs.Pick.{pick}
-use Rattle.wire.specs.Answer.{Told}
 use Rattle.wire.specs.Alex.{alexWords}
 use Rattle.wire.specs.Phase.{phaseWord}
 use Rattle.wire.specs.Rate.{khzOf}
@@ -15,7 +14,7 @@ use Rattle.wire.specs.declared.board.BoardId.the-variants.{Skipped}
 use Rattle.attenuator.specs.Controller as Controller
 use Rattle.stall.specs.Episode.{unarmed}
 use Rattle.health.specs.Counters.{noneCounted}
-use Rattle.account.specs.Settings.{settingsTold, accepts, attenuates}
+use Rattle.account.specs.Settings.{accepts, attenuates}
 use Rattle.account.specs.Parts.{with-common, with-closed}
 use Rattle.account.specs.declared.settings.Settings.{Settings}
 use Rattle.account.specs.declared.settings.AttenuationChoice.the-variants as choice
@@ -50,7 +49,7 @@ freshCommon s now =
       tuning = tuned s;
       seq = 0 ∷ 0 ∷ 0 ∷ 0 ∷ [];
       clocks = record { «high_priority» = now; «rx_tx_specific» = now; general = now };
-      attenuator = record { attenuation = attenuationAt (attenuates (s .attenuation)) now };
+      attenuator = record { attenuation = attenuationAt (attenuates s) now };
       health = noneCounted;
       «consecutive_malformed» = 0;
       «last_reading» = now;

@@ -7,12 +7,10 @@ use Rattle.stall.specs.declared.StallEpisode.{StallEpisode}
 use Rattle.health.specs.declared.InputHealthCounters.{InputHealthCounters}
 use Rattle.account.specs.declared.receiver.Anchor.{Anchor}
 use Rattle.account.specs.declared.receiver.Reading.{Reading}
-use Rattle.account.specs.declared.receiver.Window.{Window}
 use Rattle.account.specs.declared.receiver.Slot.{Slot}
 use Rattle.account.specs.declared.receiver.Pending.{Pending}
 use Rattle.account.specs.declared.receiver.Receiver.{Receiver}
 use Rattle.account.specs.declared.session.Clocks.{Clocks}
-use Rattle.account.specs.declared.session.Attenuation.{Attenuation}
 use Rattle.account.specs.declared.session.Attenuator.{Attenuator}
 use Rattle.account.specs.declared.session.Common.{Common}
 use Rattle.account.specs.declared.session.Session.{Session}

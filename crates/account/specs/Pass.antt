@@ -5,7 +5,7 @@ use lib.ListN.{length}
 use lib.Dec.{ltb, leb}
 use Rattle.octets.specs.Pick.{pick}
 use Rattle.stall.specs.Episode.{isDue, reported}
-use Rattle.account.specs.Answer.{Answer, done, ready, softStall, hardStall, sent}
+use Rattle.account.specs.Answer.{done, ready, softStall, hardStall, sent}
 use Rattle.account.specs.Host.{Step}
 use Rattle.account.specs.State.{waits, quietSince, notReading, fell, replied, refuse}
 use Rattle.account.specs.Sending.{duePackets, wrote}

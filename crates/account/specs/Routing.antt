@@ -1,7 +1,7 @@
 -- What an arrival is, by its sender and its octets. Definitions only.
 use Prim.Native.Nat.{ℕ, _-_}
-use mathlib.Core.Bool.{Bool, not}
-use mathlib.Core.List.{List, [], _∷_}
+use mathlib.Core.Bool.{not}
+use mathlib.Core.List.{List}
 use lib.Dec.{ltb, leb, eqb}
 use lib.ListN.{getD}
 use Rattle.octets.specs.Pick.{pick}
@@ -9,7 +9,6 @@ use Rattle.wire.specs.Answer.{Told, gives, refused}
 use Rattle.wire.specs.Iq.{headerTold}
 use Rattle.account.specs.declared.sender.Sender.{Sender}
 use Rattle.account.specs.declared.sender.Sender.the-variants.{V4, V6}
-use Rattle.account.specs.declared.settings.Settings.{Settings}
 
 pub data Routed : Type 0 where
   -- a valid I/Q datagram, with its count

@@ -7,7 +7,7 @@ use lib.Dec.{leb}
 use lib.Ieee.{Float}
 use Rattle.octets.specs.Pick.{pick}
 use Rattle.double.specs.Whole.{most}
-use Rattle.double.specs.Stream.{jumpLimit, restartMissing, accountTime, coveredTime, belowHalf}
+use Rattle.double.specs.Stream.{jumpLimit, accountTime, coveredTime, belowHalf}
 use Rattle.wire.specs.Sequence.{observed}
 use Rattle.wire.specs.declared.sequence.Expected.the-variants.{Next}
 use Rattle.wire.specs.declared.sequence.SeqTracker.{SeqTracker}

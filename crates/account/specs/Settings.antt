@@ -1,7 +1,6 @@
 -- The settings: 01's rows 1 to 6, in order, and what the attenuation choice means. Definitions only.
-use Prim.Native.Nat.{ℕ}
 use mathlib.Core.Bool.{Bool, true, false, not}
-use mathlib.Core.List.{List, [], _∷_}
+use mathlib.Core.List.{[], _∷_}
 use lib.Dec.{ltb, eqb}
 use Rattle.octets.specs.Pick.{pick}
 use Rattle.wire.specs.Answer.{Told, gives, refused}
@@ -49,7 +48,11 @@ settingsAnswer CenterTooHigh = refused 5 []
 settingsAnswer Port = refused 6 []
 
 -- off, on or unsaid; unsaid means off
-abbrev pub attenuates : AttenuationChoice → Bool
-attenuates Off = false
-attenuates On = true
-attenuates Unsaid = false
+abbrev pub chosen : AttenuationChoice → Bool
+chosen Off = false
+chosen On = true
+chosen Unsaid = false
+
+-- whether a session with these settings attenuates
+abbrev pub attenuates : Settings → Bool
+attenuates s = chosen (s .attenuation)

@@ -3,11 +3,11 @@ use Prim.Native.Nat.{ℕ, _-_, _*_, max}
 use mathlib.Core.Bool.{Bool, true, false, not, _||_}
 use mathlib.Core.List.{List, []}
 use lib.ListN.{drop}
-use lib.Dec.{ltb, leb}
+use lib.Dec.{ltb}
 use lib.Ieee.{Float}
 use Rattle.account.specs.Answer.{Answer, refused}
 use Rattle.account.specs.Sample.{Sample, pairs}
-use Rattle.account.specs.Host.{Reply, Step}
+use Rattle.account.specs.Host.{Step}
 use Rattle.account.specs.declared.receiver.Anchor.{Anchor}
 use Rattle.account.specs.declared.receiver.Anchor.the-variants.{Unset, At}
 use Rattle.account.specs.declared.receiver.Receiver.{Receiver}

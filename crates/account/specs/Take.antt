@@ -7,13 +7,12 @@ use lib.Ieee.{Float}
 use Rattle.octets.specs.Pick.{pick}
 use Rattle.octets.specs.Written.{written}
 use Rattle.stall.specs.Episode.{delivered}
-use Rattle.account.specs.Answer.{Answer, took}
+use Rattle.account.specs.Answer.{took}
 use Rattle.account.specs.Host.{Step}
 use Rattle.account.specs.State.{State, left, notReading, fell, replied, refuse}
 use Rattle.account.specs.Pass.{shut}
 use Rattle.account.specs.Parts.{with-last-reading}
 use Rattle.account.specs.declared.receiver.Receiver.{Receiver}
-use Rattle.account.specs.declared.session.Session.{Session}
 
 -- the f32 of n pairs, from the queue's position on
 abbrev pub front : Receiver → List Float → ℕ → List Float

@@ -1,5 +1,5 @@
 -- The stream in whole numbers: how an arrival lies to the number e that is expected. Definitions only.
-use Prim.Native.Nat.{ℕ, _+_, _-_, _%_, _^_, _≤_, _<_}
+use Prim.Native.Nat.{ℕ, _+_, _-_, _%_, _≤_, _<_}
 use mathlib.Core.Bool.{Bool, not, _&&_, _||_}
 use lib.Dec.{leb, ltb, eqb}
 use Rattle.octets.specs.Pick.{pick}

@@ -9,8 +9,7 @@ use Rattle.double.specs.Whole.{most}
 use Rattle.double.specs.Stream.{jumpLimit, restartMissing, accountTime, coveredTime}
 use Rattle.wire.specs.Answer.{Told, gives, refused}
 use Rattle.stall.specs.Episode.{unarmed}
-use Rattle.wire.specs.declared.sequence.SeqEvent.{SeqEvent}
-use Rattle.wire.specs.declared.sequence.SeqEvent.the-variants.{InOrder, Gap, Stale, Restart}
+use Rattle.wire.specs.declared.sequence.SeqEvent.the-variants.{Gap, Restart}
 use Rattle.account.specs.Settings.{settingsTold}
 use Rattle.account.specs.Answer.{Answer, heard}
 use Rattle.account.specs.Rules.{begun, used, elapsed, backlog, expecting, outage, added}
@@ -22,14 +21,13 @@ use Rattle.account.specs.Session.{step}
 use Rattle.account.specs.Whole.{fits, fitsBelow}
 use Rattle.account.specs.Book.{Book, missing}
 use Rattle.account.specs.Lists.{kHz48, mHz7, radio, usual, datagram, iqAt, iqWith, room, silence}
-use Rattle.account.specs.Edges.{Given, number, answer, told, window, held, route, bit, Edge, edge}
+use Rattle.account.specs.Edges.{number, answer, told, window, held, route, bit, Edge, edge}
 use Rattle.account.specs.declared.receiver.Anchor.the-variants.{At}
 use Rattle.account.specs.declared.receiver.Window.{Window}
 use Rattle.account.specs.declared.receiver.Window.the-variants.{Shut, Open}
 use Rattle.account.specs.declared.receiver.Slot.the-variants.{Empty, Holds}
 use Rattle.account.specs.declared.sender.Sender.{Sender}
 use Rattle.account.specs.declared.sender.Sender.the-variants.{V4, V6}
-use Rattle.account.specs.declared.settings.Settings.{Settings}
 
 abbrev num : ℕ → ℕ → Edge
 num worked is = edge (number worked) (number is)
