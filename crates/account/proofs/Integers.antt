@@ -3,16 +3,17 @@ use Prim.Native.Nat.{ℕ, suc, _+_, _-_, _*_, _%_, _≤_}
 use mathlib.Core.Path.{_≡_, refl, sym, _∙_}
 use mathlib.Core.List.{List, [], _∷_}
 use native.Mathlib.Omega.{arith}
-use native.Mathlib.Decide.{decLe, decLt, ℕ-discrete}
+use native.Mathlib.Decide.{decLt, ℕ-discrete}
 use lib.ListN.{length}
 use lib.Dec.{ltb, leb, eqb}
 use lib.Ieee.{Float}
 use lib.IntN.{ℤ, pos, negsuc, _+ℤ_}
-use borrow.Author.Tests.{le-ltb, lt-ltb, le-leb, lt-leb, eq-eqb, ne-eqb}
+use borrow.Author.Tests.{le-ltb, lt-ltb, eq-eqb, ne-eqb}
 use Rattle.account.specs.Whole.{Near, fitsAbove, fitsBelow, fits}
 use Rattle.account.specs.Session.{session}
 use Rattle.account.specs.Ledger.{Sent}
 use Rattle.account.specs.Integers.{Dealt, Moved, Meetsℤ}
+use Rattle.account.proofs.Numbers.{leb-is}
 use Rattle.account.proofs.Demand3.{demand3}
 
 pub demand3ℤ : (samples : List Float) → length samples ≡ 476 → Meetsℤ (session samples)
@@ -58,7 +59,7 @@ ltb-shift : (a b s : ℕ) → ltb (a + s) (b + s) ≡ ltb a b
 ltb-shift a b s = elim (decLt a b) [ yes h ↦ lt-ltb (a + s) (b + s) (omega arith) ∙ sym (lt-ltb a b h) | no h ↦ le-ltb (a + s) (b + s) (omega arith) ∙ sym (le-ltb a b (omega arith)) ]
 
 leb-shift : (a b s : ℕ) → leb (a + s) (b + s) ≡ leb a b
-leb-shift a b s = elim (decLe a b) [ yes h ↦ le-leb (a + s) (b + s) (omega arith) ∙ sym (le-leb a b h) | no h ↦ lt-leb (a + s) (b + s) (omega arith) ∙ sym (lt-leb a b (omega arith)) ]
+leb-shift a b s = leb-is (a + s) (b + s) a b (λ h. omega arith) (λ h. omega arith)
 
 residue : (n k : ℕ) → (n + 0x1_0000_0000 * k) % 0x1_0000_0000 ≡ n % 0x1_0000_0000
 residue n k = omega arith

@@ -1,13 +1,17 @@
 -- The tracker, with the jump limit, tells what the whole numbers say. Assumes nothing.
 use Prim.Native.Nat.{ℕ, _+_, _-_, _%_, _≤_, _<_}
-use mathlib.Core.Path.{_≡_}
+use mathlib.Core.Path.{_≡_, refl, sym, ap, _∙_}
+use mathlib.Core.Bool.{Bool, true, false, not, _&&_}
 use mathlib.Core.Logic.{_≢_}
 use native.Mathlib.Omega.{arith}
 use native.Mathlib.Decide.{decLe, decLt, ℕ-discrete}
+use lib.Dec.{leb}
 use borrow.Author.Tests.{lt-ltb, le-ltb, le-leb, lt-leb, eq-eqb, ne-eqb}
 use Rattle.octets.specs.Pick.{pick}
 use Rattle.wire.specs.Sequence.{less, zeroRestarts, meant}
 use Rattle.wire.specs.Sequence as Sequence
+use Rattle.wire.specs.declared.sequence.SeqEvent.{SeqEvent}
+use Rattle.wire.specs.declared.sequence.SeqEvent.the-variants.{Gap, Stale, Restart}
 use Rattle.account.specs.Rules.{capped}
 use Rattle.account.specs.Whole.{Near, fitsAbove, fitsBelow, verdict}
 
@@ -23,9 +27,36 @@ pub next : (n : ℕ) → Sequence.after (n % 0x1_0000_0000) ≡ (n + 1) % 0x1_00
 unfolding Sequence.after
 next n = omega arith
 
+-- ---- tests of differences, as tests of the numbers
+
+pub leb-is : (a b c d : ℕ) → (a ≤ b → c ≤ d) → (c ≤ d → a ≤ b) → leb a b ≡ leb c d
+leb-is a b c d f g =
+    elim (decLe a b) [
+      | yes h ↦ le-leb a b h ∙ sym (le-leb c d (f h))
+      | no h ↦ lt-leb a b (omega arith) ∙ sym (lt-leb c d (elim (decLe c d) [ yes k ↦ absurd (h (g k)) | no k ↦ omega arith ]))
+    ]
+
+-- after at most six stale ones, or not
+seventh : (run : ℕ) → leb 8 (run + 1) ≡ not (leb run 6)
+seventh run =
+    elim (decLe run 6) [
+      | yes h ↦ lt-leb 8 (run + 1) (omega arith) ∙ ap not (sym (le-leb run 6 h))
+      | no h ↦ le-leb 8 (run + 1) (omega arith) ∙ ap not (sym (lt-leb run 6 (omega arith)))
+    ]
+
+-- what is told of a number below e, and what is to be told
+below-as : (limit : ℕ) (near few : Bool) → capped limit (pick near (pick (not few) Restart Stale) Restart) ≡ pick (near && few) Stale Restart
+unfolding capped pick
+below-as limit true true = refl
+below-as limit true false = refl
+below-as limit false few = refl
+
 module _ (limit run e n : ℕ) (near : Near e n) where
+  abbrev told : SeqEvent
+  told = meant (less (n % 0x1_0000_0000) (e % 0x1_0000_0000)) run (n % 0x1_0000_0000)
+
   abbrev Right : Type 0
-  Right = capped limit (meant (less (n % 0x1_0000_0000) (e % 0x1_0000_0000)) run (n % 0x1_0000_0000)) ≡ verdict limit run e n
+  Right = capped limit told ≡ verdict limit run e n
 
   same : n ≡ e → Right
   unfolding capped meant zeroRestarts verdict pick
@@ -42,93 +73,47 @@ module _ (limit run e n : ℕ) (near : Near e n) where
       simp (ne-eqb n e h, ne-eqb (less (n % 0x1_0000_0000) (e % 0x1_0000_0000)) 0 (differs h), eq-eqb (n % 0x1_0000_0000) 0 z)
 
   module _ (h : n ≢ e) (z : n % 0x1_0000_0000 ≢ 0) where
-    gap : e < n → n ≤ e + limit → Right
-    unfolding capped meant zeroRestarts verdict fitsAbove fitsBelow pick
-    gap a l =
+    -- above e
+    above-told : e < n → capped limit told ≡ pick (leb (n - e) limit) (Gap (n - e)) Restart
+    unfolding capped meant zeroRestarts pick
+    above-told a =
         simp (
-          ne-eqb n e h,
           ne-eqb (n % 0x1_0000_0000) 0 z,
           above e n (omega arith) (omega (arith, near)),
           ne-eqb (n - e) 0 (omega arith),
           lt-ltb (n - e) 0x8000_0000 (omega (arith, near)),
-          le-leb (n - e) limit (omega arith),
-          lt-ltb e n a,
-          le-leb n (e + limit) l,
         )
 
-    far : e < n → e + limit < n → Right
-    unfolding capped meant zeroRestarts verdict fitsAbove fitsBelow pick
-    far a l =
-        simp (
-          ne-eqb n e h,
-          ne-eqb (n % 0x1_0000_0000) 0 z,
-          above e n (omega arith) (omega (arith, near)),
-          ne-eqb (n - e) 0 (omega arith),
-          lt-ltb (n - e) 0x8000_0000 (omega (arith, near)),
-          lt-leb (n - e) limit (omega arith),
-          lt-ltb e n a,
-          le-ltb n e (omega arith),
-          lt-leb n (e + limit) l,
-        )
-
-    late : n < e → e ≤ n + 64 → run ≤ 6 → Right
-    unfolding capped meant zeroRestarts verdict fitsAbove fitsBelow pick
-    late a l r =
-        simp (
-          ne-eqb n e h,
-          ne-eqb (n % 0x1_0000_0000) 0 z,
-          below e n a (omega (arith, near)),
-          ne-eqb (0x1_0000_0000 - (e - n)) 0 (omega (arith, near)),
-          le-ltb (0x1_0000_0000 - (e - n)) 0x8000_0000 (omega (arith, near)),
-          le-leb 0xffff_ffc0 (0x1_0000_0000 - (e - n)) (omega arith),
-          lt-leb 8 (run + 1) (omega arith),
-          le-ltb e n (omega arith),
-          lt-ltb n e a,
-          le-leb e (n + 64) l,
-          le-leb run 6 r,
-        )
-
-    eighth : n < e → e ≤ n + 64 → 6 < run → Right
-    unfolding capped meant zeroRestarts verdict fitsAbove fitsBelow pick
-    eighth a l r =
-        simp (
-          ne-eqb n e h,
-          ne-eqb (n % 0x1_0000_0000) 0 z,
-          below e n a (omega (arith, near)),
-          ne-eqb (0x1_0000_0000 - (e - n)) 0 (omega (arith, near)),
-          le-ltb (0x1_0000_0000 - (e - n)) 0x8000_0000 (omega (arith, near)),
-          le-leb 0xffff_ffc0 (0x1_0000_0000 - (e - n)) (omega arith),
-          le-leb 8 (run + 1) (omega arith),
-          le-ltb e n (omega arith),
-          lt-ltb n e a,
-          le-leb e (n + 64) l,
-          lt-leb run 6 r,
-        )
-
-    old : n < e → n + 64 < e → Right
-    unfolding capped meant zeroRestarts verdict fitsAbove fitsBelow pick
-    old a l =
-        simp (
-          ne-eqb n e h,
-          ne-eqb (n % 0x1_0000_0000) 0 z,
-          below e n a (omega (arith, near)),
-          ne-eqb (0x1_0000_0000 - (e - n)) 0 (omega (arith, near)),
-          le-ltb (0x1_0000_0000 - (e - n)) 0x8000_0000 (omega (arith, near)),
-          lt-leb 0xffff_ffc0 (0x1_0000_0000 - (e - n)) (omega (arith, near)),
-          le-ltb e n (omega arith),
-          lt-ltb n e a,
-          lt-leb e (n + 64) l,
-        )
+    above-verdict : e < n → verdict limit run e n ≡ pick (leb n (e + limit)) (Gap (n - e)) Restart
+    unfolding verdict fitsAbove fitsBelow pick
+    above-verdict a = simp (ne-eqb n e h, ne-eqb (n % 0x1_0000_0000) 0 z, lt-ltb e n a, le-ltb n e (omega arith))
 
     after : e < n → Right
-    after a = elim (decLe n (e + limit)) [ yes l ↦ gap a l | no l ↦ far a (omega arith) ]
+    after a =
+        above-told a
+        ∙ ap (λ (t : Bool). pick t (Gap (n - e)) Restart) (leb-is (n - e) limit n (e + limit) (λ l. omega arith) (λ l. omega arith))
+        ∙ sym (above-verdict a)
+
+    -- below e
+    below-told : n < e → told ≡ pick (leb 0xffff_ffc0 (0x1_0000_0000 - (e - n))) (pick (leb 8 (run + 1)) Restart Stale) Restart
+    unfolding meant zeroRestarts pick
+    below-told a =
+        simp (
+          ne-eqb (n % 0x1_0000_0000) 0 z,
+          below e n a (omega (arith, near)),
+          ne-eqb (0x1_0000_0000 - (e - n)) 0 (omega (arith, near)),
+          le-ltb (0x1_0000_0000 - (e - n)) 0x8000_0000 (omega (arith, near)),
+        )
+
+    below-verdict : n < e → verdict limit run e n ≡ pick (leb e (n + 64) && leb run 6) Stale Restart
+    unfolding verdict fitsAbove fitsBelow pick
+    below-verdict a = simp (ne-eqb n e h, ne-eqb (n % 0x1_0000_0000) 0 z, le-ltb e n (omega arith), lt-ltb n e a)
 
     before : n < e → Right
     before a =
-        elim (decLe e (n + 64)) [
-          | yes l ↦ elim (decLe run 6) [ yes r ↦ late a l r | no r ↦ eighth a l (omega arith) ]
-          | no l ↦ old a (omega arith)
-        ]
+        let l : leb 0xffff_ffc0 (0x1_0000_0000 - (e - n)) ≡ leb e (n + 64)
+        = leb-is 0xffff_ffc0 (0x1_0000_0000 - (e - n)) e (n + 64) (λ l. omega (arith, near)) (λ l. omega (arith, near)) in
+        rw (below-told a, l, seventh run) (below-as limit (leb e (n + 64)) (leb run 6) ∙ sym (below-verdict a))
 
     other : Right
     other = elim (decLt e n) [ yes a ↦ after a | no a ↦ before (omega arith) ]
