@@ -24,7 +24,8 @@ use Rattle.account.specs.Host.{Incoming, Arrival, Step}
 use Rattle.account.specs.State.{State, left, waits, waitingIn, keeping}
 use Rattle.account.specs.Sample.{pairs}
 use Rattle.wire.specs.Iq as Iq
-use Rattle.account.specs.Arrival.{eventOf, restartOf, leftOut, accepted, told, hear, heardAs, heardIq, overload, heardStatus, oneMore, heardMalformed, arrived, atReading, route, arrival}
+use Rattle.account.specs.Hearing.{eventOf, restartOf, leftOut, accepted}
+use Rattle.account.specs.Arrival.{told, hear, heardAs, heardIq, overload, heardStatus, oneMore, heardMalformed, arrived, atReading, route, arrival}
 use Rattle.account.specs.Whole.{fits, fitsBelow, verdict}
 use Rattle.account.specs.Book.{Quiet, Came, brought, news, Book, fitIn, belowIn, limitIn, restartIn, missingIn, judged}
 use Rattle.account.specs.Ledger.{tells, Entry, samplesOf}

@@ -18,7 +18,8 @@ use Rattle.account.specs.Routing.{byOffset, routed}
 use Rattle.account.specs.State.{left, waits}
 use Rattle.account.specs.Open.{freshCommon, freshReceiver, fresh, opened}
 use Rattle.account.specs.Begin.{orAt, begunBy, begin}
-use Rattle.account.specs.Arrival.{eventOf, restartOf, accepted, hear, heardAs, heardIq, arrived, arrival}
+use Rattle.account.specs.Hearing.{eventOf, restartOf, accepted}
+use Rattle.account.specs.Arrival.{hear, heardAs, heardIq, arrived, arrival}
 use Rattle.account.specs.Take.{handed, handOut, takeOut}
 use Rattle.account.specs.Drain.{takeMissing, takeDiscontinuity}
 use Rattle.account.specs.Session.{step}

@@ -3,6 +3,7 @@
 pub mod Answers
 pub mod Rows
 pub mod Refusals
+pub mod Room
 pub mod Traces
 -- whole numbers alone, then lists of arrivals, then any host, then this session call by call
 pub mod Numbers

@@ -15,7 +15,8 @@ use Rattle.account.specs.Rules.{begun, refilled, used, elapsed, capped, 
 use Rattle.account.specs.Routing.{byOffset, routed}
 use Rattle.account.specs.State.{left, waits}
 use Rattle.account.specs.Open.{freshCommon}
-use Rattle.account.specs.Arrival.{eventOf, restartOf, accepted, hear, heardAs, heardIq, arrived, arrival}
+use Rattle.account.specs.Hearing.{eventOf, restartOf, accepted}
+use Rattle.account.specs.Arrival.{hear, heardAs, heardIq, arrived, arrival}
 use Rattle.account.specs.Session.{step}
 use Rattle.account.specs.Whole.{fitsAbove, fitsBelow, fits}
 use Rattle.account.specs.Worked.{timeCases, windowCases, restartCases, slotCases, routeCases, fitCases, rowCases, arrivalCases}

@@ -28,8 +28,9 @@ use Rattle.account.specs.declared.settings.Settings.{Settings}
 use Rattle.account.specs.State.{left, waits, waitingIn}
 use Rattle.account.specs.Open.{freshCommon, freshReceiver, fresh, opened}
 use Rattle.account.specs.Begin.{orAt, begunBy, begin}
-use Rattle.account.specs.Arrival.{eventOf, restartOf, leftOut, oneMore, heardMalformed, hear, heardAs, heardIq, arrived, arrival}
-use Rattle.account.specs.Arrival as Arrival
+use Rattle.account.specs.Hearing.{eventOf, restartOf, leftOut}
+use Rattle.account.specs.Arrival.{oneMore, heardMalformed, hear, heardAs, heardIq, arrived, arrival}
+use Rattle.account.specs.Hearing as Hearing
 use Rattle.account.specs.Take.{handed, handOut, takeOut}
 use Rattle.account.specs.Close.{stop, close}
 use Rattle.account.specs.Host.{Begin, Close}
@@ -86,7 +87,7 @@ late = (refl, near 101 100 (omega arith) (omega arith))
 pub refuted : Refuted
 unfolding pick accepts settingsTold isRate rateAt first eq ofInt wholeCentre belowNyquist isWhole lt opened fresh freshCommon freshReceiver step
     begin begunBy orAt begun refilled arrival arrived routed byOffset headerTold rows heardIq heardAs hear eventOf capped observed meant less after zeroRestarts
-    elapsed jumpLimit plausible natOf secondsOf add mul div waits left Arrival.accepted used missingOf takeOut handOut handed fits fitsAbove fitsBelow
+    elapsed jumpLimit plausible natOf secondsOf add mul div waits left Hearing.accepted used missingOf takeOut handOut handed fits fitsAbove fitsBelow
     restartMissing rounded sub outage restartOf waitingIn close stop leftOut heardMalformed oneMore
 refuted =
     record {

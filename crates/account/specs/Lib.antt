@@ -15,12 +15,14 @@ pub mod Sending
 pub mod Open
 pub mod Begin
 pub mod Pass
+pub mod Hearing
 pub mod Arrival
 pub mod Take
 pub mod Close
 pub mod Drain
 pub mod Session
 pub mod Refusals
+pub mod Room
 -- demand 3, and what stands beside it
 pub mod Whole
 pub mod Book

@@ -1,0 +1,54 @@
+-- A receiver hears a valid I/Q datagram: its event, its missing, and the receiver after it. Definitions only.
+use Prim.Native.Nat.{ℕ}
+use lib.Ieee.{Float}
+use Rattle.double.specs.Stream.{jumpLimit, restartMissing}
+use Rattle.wire.specs.Sequence.{after, observed}
+use Rattle.wire.specs.declared.sequence.SeqEvent.{SeqEvent}
+use Rattle.wire.specs.declared.sequence.SeqEvent.the-variants.{InOrder, Gap, Stale, Restart}
+use Rattle.health.specs.Counters.{countDropped, countGap}
+use Rattle.health.specs.declared.InputHealthCounters.{InputHealthCounters}
+use Rattle.account.specs.Rules.{used, elapsed, capped, outage, pendingAfter}
+use Rattle.account.specs.Host.{Incoming}
+use Rattle.account.specs.Parts.{with-tracker, with-reading, with-last-valid-iq, with-wait-entered}
+use Rattle.account.specs.declared.receiver.Anchor.the-variants.{Unset}
+use Rattle.account.specs.declared.receiver.Receiver.{Receiver}
+
+-- the event that is told: a gap over the jump limit is a restart
+unfoldable pub eventOf : Float → Receiver → ℕ → ℕ → SeqEvent
+eventOf rate r now count =
+    capped (jumpLimit (elapsed rate (r .«last_accepted_iq») (r .parked .window) now) rate) (observed (r .tracker) count .event)
+
+-- what it misses if it is a restart
+unfoldable pub restartOf : Float → Receiver → Incoming → ℕ → ℕ
+restartOf rate r i count =
+    restartMissing (outage rate (r .«last_accepted_iq») (r .parked .window) (i .now) (i .later) (after count) (i .waiting)) rate
+
+-- Valid I/Q, Stale too, empties the wait anchor, and not the read's own
+abbrev pub valid : Receiver → ℕ → Receiver
+valid r now = with-reading (with-last-valid-iq r now) (with-wait-entered (r .reading) Unset)
+
+-- Stale: no sample, no account, and the expected number stays
+unfoldable pub leftOut : Receiver → ℕ → ℕ → Receiver
+leftOut r now count = with-tracker (valid r now) (observed (r .tracker) count .tracker)
+
+-- any other event: its 238 samples wait, and its missing is told, added to the account and put into a slot
+unfoldable pub accepted : Float → Receiver → ℕ → ℕ → SeqEvent → ℕ → Receiver
+accepted rate r now count event missing =
+    record {
+      tracker = observed (r .tracker) count .tracker;
+      «queue_pos» = 0;
+      reading = valid r now .reading;
+      parked = record { window = used (r .parked .window) missing };
+      pending = pendingAfter rate event missing (r .pending);
+      «last_valid_iq» = now;
+      «last_accepted_iq» = now;
+      «read_returned» = r .«read_returned»;
+      stall = r .stall;
+    }
+
+-- a gap k adds k dropped and one gap, a restart one gap
+unfoldable pub counted : SeqEvent → InputHealthCounters → InputHealthCounters
+counted InOrder c = c
+counted (Gap k) c = countGap (countDropped c k)
+counted Stale c = c
+counted Restart c = countGap c
