@@ -47,14 +47,14 @@ module _ (samples : List Float) (size : length samples ≡ 476) (s : Settings) (
   unfolding fresh freshCommon freshReceiver
   fresh-same = record { settings = refl; tracker = refl; accepted = refl; taken = refl; window = refl; size = size }
 
-  at-first : Same s (blank now) (openedWith samples s now)
+  pub at-first : Same s (blank now) (openedWith samples s now)
   at-first = rw opens fresh-same
 
   fresh-waits : waitingIn (fresh s now .receiver) samples ≡ []
   unfolding waitingIn fresh freshReceiver
   fresh-waits = none-past 238 samples size refl
 
-  none-waits : waitingOf (openedWith samples s now) ≡ []
+  pub none-waits : waitingOf (openedWith samples s now) ≡ []
   none-waits = rw opens fresh-waits
 
 module _ (samples : List Float) (size : length samples ≡ 476) where

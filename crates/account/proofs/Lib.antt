@@ -19,5 +19,6 @@ pub mod Demand3
 pub mod Numbering
 pub mod Integers
 pub mod Wrong
+pub mod Refusing
 pub mod Edges
 pub mod Worked

@@ -9,7 +9,10 @@ use Rattle.wire.specs.declared.sequence.Expected.the-variants.{Nothing, Next}
 use Rattle.wire.specs.Sequence.{after}
 use Rattle.account.specs.Answer.{Answer, refused, done, heard, took, slot, flag}
 use Rattle.account.specs.Host.{Incoming, Call, Begin, Pass, Arrival, Take, Close, TakeMissing, TakeDiscontinuity, TakeStalled, Reply, Step, Host}
-use Rattle.account.specs.State.{State}
+use Rattle.account.specs.State.{State, refuse}
+use Rattle.account.specs.Refusals.{lentPackets, lentBuffer}
+use Rattle.octets.specs.Pick.{pick}
+use mathlib.Core.Bool.{Bool}
 use Rattle.account.specs.Session.{step, session}
 use Rattle.account.specs.Parts.{with-receiver, with-tracker}
 use Rattle.account.specs.Lists.{silence}
@@ -156,7 +159,13 @@ bears = tracking (λ count a t. byAnswer (record { expected = t .expected; «sta
 abbrev pub resets : Host
 resets = tracking (λ count a t. byAnswer t (record { expected = t .expected; «stale_run» = 0 }) t a)
 
--- ---- none of them passes
+-- ---- what demand 3 can't see
+
+-- refuses what it likes, every arrival, say: the test is any of state and call. What was refused did not arrive
+abbrev pub refusing : (State → Call → Bool) → Host
+refusing p = with (λ st c. pick (p st c) (refuse 12 (lentPackets c) (lentBuffer c) st) (step st c))
+
+-- ---- none of the others passes
 
 pub record Refuted : Type 1 where
   pub invents : ¬ Meets invents
