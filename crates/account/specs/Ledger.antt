@@ -26,22 +26,23 @@ pub record Tells : Type 0 where
   pub refusal : Bool
   pub event : Option SeqEvent
   pub missing : ℕ
-  pub count : ℕ
+  -- how many pairs a Take handed out
+  pub handed : ℕ
 
 abbrev pub silent : Bool → ℕ → Tells
-silent r n = record { refusal = r; event = none; missing = 0; count = n }
+silent r n = record { refusal = r; event = none; missing = 0; handed = n }
 
 abbrev pub tells : Answer → Tells
 tells (refused number) = silent true 0
 tells (done word) = silent false 0
-tells (heard event missing) = record { refusal = false; event = some event; missing = missing; count = 0 }
+tells (heard event missing) = record { refusal = false; event = some event; missing = missing; handed = 0 }
 tells (took n) = silent false n
 tells (slot held) = silent false 0
 tells (flag stalled) = silent false 0
 
 -- the samples that a Take handed out, as its buffer holds them on return
 abbrev pub gave : Call → Reply → List Sample
-gave (Take now buffer) r = pairs (take (2 * (tells (r .answer)) .count) (r .buffer))
+gave (Take now buffer) r = pairs (take (2 * (tells (r .answer)) .handed) (r .buffer))
 gave (Begin now) r = []
 gave (Pass now packets) r = []
 gave (Arrival i packets) r = []
@@ -89,7 +90,7 @@ abbrev pub ledger : Settings → Book → List Line → List Entry
 ledger s b [] = []
 ledger s b (l ∷ ls) = entry b (l .news) (l .number) (l .says) ++ ledger s (noted s b (l .news) (l .number)) ls
 
--- it fits; it fits below
+-- whether an arrival fits, and whether it fits below e
 abbrev pub fitting : Settings → Entry → Bool
 fitting s x = fit s (x .book) (x .incoming .now) (x .number)
 

@@ -1,9 +1,10 @@
 -- Settings, datagrams and lists of calls to try hosts and rules on. Definitions only.
 use Prim.Native.Nat.{ℕ, _+_}
 use mathlib.Core.Bool.{false}
+use mathlib.Core.Path.{_≡_, refl}
 use mathlib.Core.List.{List, [], _∷_, _++_}
 use lib.ListN.{replicate}
-use lib.Ieee.{Float, fin}
+use lib.Ieee.{Float, fin, binary64, ofInt}
 use lib.IntN.{pos}
 use Rattle.octets.specs.Number.{be}
 use Rattle.wire.specs.Board.{boardInfo}
@@ -15,12 +16,20 @@ use Rattle.account.specs.declared.sender.Sender.the-variants.{V4}
 use Rattle.account.specs.declared.settings.Settings.{Settings}
 use Rattle.account.specs.declared.settings.AttenuationChoice.the-variants.{Unsaid}
 
+-- 48,000 and 7,000,000 Hz, each with its control
 abbrev pub kHz48 : Float
 kHz48 = fin false 375 (pos 7)
 
--- 7,000,000 Hz
 abbrev pub mHz7 : Float
 mHz7 = fin false 109375 (pos 6)
+
+kHz48-is : kHz48 ≡ ofInt binary64 (pos 48000)
+unfolding ofInt
+kHz48-is = refl
+
+mHz7-is : mHz7 ≡ ofInt binary64 (pos 7000000)
+unfolding ofInt
+mHz7-is = refl
 
 -- 10.0.0.2
 abbrev pub radio : ℕ
