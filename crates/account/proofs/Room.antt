@@ -151,7 +151,7 @@ module _ (samples : List Float) (now : ℕ) (d : List ℕ) where
       pick-either _ _ _ (FineBy (Pass now d) samples) (λ _. untouched (Pass now d) _ refl refl refl) λ _.
       pick-either _ _ _ (FineBy (Pass now d) samples) (λ _. untouched (Pass now d) _ refl refl refl) λ _.
       pick-either _ _ _ (FineBy (Pass now d) samples) (λ _. untouched (Pass now d) _ refl refl refl) λ e.
-      passed-roomy _ (ltb-false (length d) 4452 e)
+      passed-roomy _ (let l = ltb-false (length d) _ e in omega (arith, l))
 
 module _ (i : Incoming) (d : List ℕ) where
   abbrev There : Step State → Type 0
