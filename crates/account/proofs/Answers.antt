@@ -1,10 +1,11 @@
 -- An answer in 01's words and numbers leaves no doubt which answer of the code it was. Assumes nothing.
 use Prim.Native.Nat.{ℕ}
-use mathlib.Core.Path.{_≡_, refl, sym, ap, _∙_}
+use mathlib.Core.Path.{_≡_, refl}
 use lib.Dec.{eqb}
 use lib.ListN.{getD}
 use Rattle.octets.specs.Pick.{pick}
 use Rattle.wire.specs.Answer.{Told, gives}
+use Rattle.wire.proofs.Answers.{apart}
 use Rattle.wire.specs.Answer as Told
 use Rattle.wire.specs.declared.sequence.SeqEvent.{SeqEvent}
 use Rattle.wire.specs.declared.sequence.SeqEvent.the-variants.{InOrder}
@@ -22,10 +23,6 @@ use Rattle.account.specs.declared.answer.TakeAnswer.{TakeAnswer}
 use Rattle.account.specs.declared.answer.TakeAnswer.the-variants as taking
 use Rattle.account.specs.declared.answer.CloseAnswer.{CloseAnswer}
 use Rattle.account.specs.declared.answer.CloseAnswer.the-variants as closing
-
--- a definition that can be read back tells its cases apart
-apart : {A B : Type 0} (told : A → B) (back : B → A) → ((r : A) → back (told r) ≡ r) → (r s : A) → told r ≡ told s → r ≡ s
-apart told back h r s e = sym (h r) ∙ ap back e ∙ h s
 
 settings-by : ℕ → SettingsAnswer
 settings-by k =

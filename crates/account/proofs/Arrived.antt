@@ -90,7 +90,6 @@ module _ (s : Settings) (b : Book) (st : State) (n : ℕ) (h : Same s b st) (i :
     pub right : Right s (the (x .reply .answer) count)
     pub exact : Exact s b (Came i count) n (tells (x .reply .answer))
     pub flow : waitingOf (x .state) ≡ samplesOf (Ledger.accepted (the (x .reply .answer) count ∷ []))
-    pub answered : (tells (x .reply .answer)) .refusal ≡ false
 
   ruled : Rules ev (fitIn (b .expected) (limitIn s b (i .now)) (b .run) n) (belowIn (b .expected) (b .run) n)
   ruled = rules (b .expected) (limitIn s b (i .now)) (b .run) n
@@ -110,12 +109,7 @@ module _ (s : Settings) (b : Book) (st : State) (n : ℕ) (h : Same s b st) (i :
     exact-of : Exact s b (Came i count) n (tells (heard ev m))
     exact-of = (refl, told ∙ missing-in (b .expected) (limitIn s b (i .now)) (b .run) n (restartIn s b i n))
 
-  -- the session's event is the book's
-  event-is : NearIn (b .expected) n → eventOf (s .«sample_rate_hz») (st .session .receiver) (i .now) (n % 0x1_0000_0000) ≡ ev
-  unfolding eventOf
-  event-is near = rw (h .accepted, h .window, h .tracker) (tells-in (b .expected) (limitIn s b (i .now)) (b .run) n near)
-
-  -- and so is a restart's figure
+  -- a restart's figure is the book's
   restart-is : restartOf (s .«sample_rate_hz») (st .session .receiver) i (n % 0x1_0000_0000) ≡ restartIn s b i n
   unfolding restartOf
   restart-is = rw (h .accepted, h .window, next n) refl
@@ -127,6 +121,7 @@ module _ (s : Settings) (b : Book) (st : State) (n : ℕ) (h : Same s b st) (i :
   seen = capped (limitIn s b (i .now)) (observed (st .session .receiver .tracker) count .event)
 
   module _ (near : NearIn (b .expected) n) where
+    -- the event is the book's
     seen-is : seen ≡ ev
     seen-is = rw (h .tracker) (tells-in (b .expected) (limitIn s b (i .now)) (b .run) n near)
 
@@ -154,7 +149,6 @@ module _ (s : Settings) (b : Book) (st : State) (n : ℕ) (h : Same s b st) (i :
           right = right-of 0 none-missing count;
           exact = exact-of 0 none-missing count;
           flow = rw below empty;
-          answered = refl;
         })
         -- accepted
         λ f.
@@ -175,8 +169,11 @@ module _ (s : Settings) (b : Book) (st : State) (n : ℕ) (h : Same s b st) (i :
           right = right-of m told count;
           exact = exact-of m told count;
           flow = rw below (sym (append-nil (pairs (Iq.samplesOf (i .octets)))));
-          answered = refl;
         }
+
+    event-is : eventOf (s .«sample_rate_hz») (st .session .receiver) (i .now) count ≡ ev
+    unfolding eventOf
+    event-is = rw (h .accepted, h .window) seen-is
 
     heard-as : Enters count (heardAs st i d count ev)
     unfolding heardAs
@@ -189,7 +186,7 @@ module _ (s : Settings) (b : Book) (st : State) (n : ℕ) (h : Same s b st) (i :
     unfolding heardIq
     enters =
         let e : eventOf (st .session .common .settings .«sample_rate_hz») (st .session .receiver) (i .now) count ≡ ev
-        = ap (λ (x : Settings). eventOf (x .«sample_rate_hz») (st .session .receiver) (i .now) count) (h .settings) ∙ event-is near in
+        = ap (λ (x : Settings). eventOf (x .«sample_rate_hz») (st .session .receiver) (i .now) count) (h .settings) ∙ event-is in
         subst (λ (v : SeqEvent). Enters count (heardAs st i d count v)) (sym e) heard-as
 
   -- with the count that the datagram holds

@@ -19,7 +19,7 @@ use Rattle.wire.specs.declared.status.OverloadBits.{OverloadBits}
 use Rattle.wire.specs.declared.status.OverloadBits.the-variants.{Bits, NoBits}
 
 -- a definition that can be read back tells its cases apart
-apart : {A : Type 0} (told : A → Told) (back : Told → A) → ((r : A) → back (told r) ≡ r) → (r s : A) → told r ≡ told s → r ≡ s
+pub apart : {A B : Type 0} (told : A → B) (back : B → A) → ((r : A) → back (told r) ≡ r) → (r s : A) → told r ≡ told s → r ≡ s
 apart told back h r s e = sym (h r) ∙ ap back e ∙ h s
 
 value : List ℕ → ℕ
