@@ -63,13 +63,6 @@ lost-of (Gap k) restart = refl
 lost-of Stale restart = refl
 lost-of Restart restart = tt
 
-stale-misses-none : (ev : SeqEvent) (restart : ℕ) → isStale ev ≡ true → missingOf ev restart ≡ 0
-unfolding missingOf
-stale-misses-none Stale restart h = refl
-stale-misses-none InOrder restart h = refl
-stale-misses-none (Gap k) restart h = let z : _≡_ {A = ℕ} 0 1 = cc in absurd (omega arith)
-stale-misses-none Restart restart h = let z : _≡_ {A = ℕ} 0 1 = cc in absurd (omega arith)
-
 -- one more stale
 one-more : (o : Option ℕ) (run : ℕ) → _≡_ {A = Rattle.wire.specs.declared.sequence.SeqTracker.SeqTracker} (record { expected = (sentAs o run) .expected; «stale_run» = (sentAs o run) .«stale_run» + 1 }) (sentAs o (run + 1))
 one-more none run = refl
@@ -132,7 +125,6 @@ module _ (s : Settings) (b : Book) (st : State) (n : ℕ) (h : Same s b st) (i :
         -- stale
         (λ t.
         let below : belowIn (b .expected) (b .run) n ≡ true = sym late-is ∙ t in
-        let none-missing : 0 ≡ missingOf ev (restartIn s b i n) = sym (stale-misses-none ev (restartIn s b i n) t) in
         record {
           same =
               rw below
@@ -146,8 +138,8 @@ module _ (s : Settings) (b : Book) (st : State) (n : ℕ) (h : Same s b st) (i :
                 window = h .window;
                 size = h .size;
               });
-          right = right-of 0 none-missing count;
-          exact = exact-of 0 none-missing count;
+          right = right-of m told count;
+          exact = exact-of m told count;
           flow = rw below empty;
         })
         -- accepted

@@ -44,9 +44,6 @@ module _ (s : Settings) where
     pub window : st .session .receiver .parked .window ≡ b .window
     pub size : length (st .samples) ≡ 476
 
-  abbrev pub Keeps : Book → State → Call → ℕ → Step State → Type 0
-  Keeps = Simulate.Keeps s State waitingOf Same (Exact s)
-
   abbrev pub Kept : Book → State → Call → ℕ → Step State → Type 0
   Kept = Simulate.Kept s State waitingOf Same (Exact s)
 

@@ -11,7 +11,7 @@ use Rattle.wire.specs.Centre.{wholeCentre, belowNyquist}
 use Rattle.wire.specs.Iq.{headerTold, rows}
 use Rattle.wire.specs.Sequence as Sequence
 use Rattle.account.specs.Settings.{settingsTold}
-use Rattle.account.specs.Rules.{begun, refilled, used, elapsed, capped, walked, backlog, uncovered, outage, missingOf, added}
+use Rattle.account.specs.Rules.{begun, refilled, used, elapsed, capped, datagrams, backlog, uncovered, outage, missingOf, added}
 use Rattle.account.specs.Routing.{byOffset, routed}
 use Rattle.account.specs.State.{left, waits}
 use Rattle.account.specs.Open.{freshCommon}
@@ -32,7 +32,7 @@ windows-hold = refl
 
 pub restarts-hold : Hold restartCases
 unfolding pick elapsed jumpLimit plausible natOf secondsOf add mul div sub rounded round ofInt accountTime coveredTime restartMissing
-    backlog walked uncovered outage Sequence.observed Sequence.meant Sequence.less Sequence.after Sequence.zeroRestarts
+    backlog capped datagrams uncovered outage Sequence.observed Sequence.meant Sequence.less Sequence.after Sequence.zeroRestarts
 restarts-hold = refl
 
 pub slots-hold : Hold slotCases
@@ -54,5 +54,5 @@ rows-hold = refl
 pub arrivals-hold : Hold arrivalCases
 unfolding pick freshCommon step arrival arrived routed byOffset headerTold rows heardIq heardAs hear eventOf restartOf capped accepted used missingOf waits left
     Sequence.observed Sequence.meant Sequence.less Sequence.after Sequence.zeroRestarts elapsed jumpLimit plausible natOf secondsOf ofInt add sub mul div
-    restartMissing rounded round outage uncovered backlog walked accountTime coveredTime fits fitsAbove fitsBelow
+    restartMissing rounded round outage uncovered backlog datagrams accountTime coveredTime fits fitsAbove fitsBelow
 arrivals-hold = refl

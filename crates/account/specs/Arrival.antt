@@ -41,7 +41,7 @@ unfoldable pub hear : State → Incoming → List ℕ → ℕ → SeqEvent → �
 hear st i d count event missing =
     let s = st .session in
     pick (isStale event)
-    (keeping (st .samples) (told (heard event 0) d
+    (keeping (st .samples) (told (heard event missing) d
     (record { common = heardCommon event (s .common); receiver = leftOut (s .receiver) (i .now) count })))
     (keeping (samplesOf (i .octets)) (told (heard event missing) d
     (record {

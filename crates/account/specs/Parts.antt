@@ -35,6 +35,10 @@ abbrev pub with-tracker : Receiver → SeqTracker → Receiver
 with-tracker s x =
     record { tracker = x; «queue_pos» = s .«queue_pos»; reading = s .reading; parked = s .parked; pending = s .pending; «last_valid_iq» = s .«last_valid_iq»; «last_accepted_iq» = s .«last_accepted_iq»; «read_returned» = s .«read_returned»; stall = s .stall }
 
+abbrev pub with-queue-pos : Receiver → ℕ → Receiver
+with-queue-pos s x =
+    record { tracker = s .tracker; «queue_pos» = x; reading = s .reading; parked = s .parked; pending = s .pending; «last_valid_iq» = s .«last_valid_iq»; «last_accepted_iq» = s .«last_accepted_iq»; «read_returned» = s .«read_returned»; stall = s .stall }
+
 abbrev pub with-reading : Receiver → Reading → Receiver
 with-reading s x =
     record { tracker = s .tracker; «queue_pos» = s .«queue_pos»; reading = x; parked = s .parked; pending = s .pending; «last_valid_iq» = s .«last_valid_iq»; «last_accepted_iq» = s .«last_accepted_iq»; «read_returned» = s .«read_returned»; stall = s .stall }

@@ -53,18 +53,18 @@ capped limit Restart = Restart
 
 -- ---- a restart
 
--- what a waiting number adds to the waiting total
-unfoldable pub walked : ℕ → SeqEvent → ℕ
-walked limit InOrder = 1
-walked limit (Gap k) = pick (leb k limit) (k + 1) 1
-walked limit Stale = 0
-walked limit Restart = 1
+-- the datagrams that a waiting number of this event stands for
+unfoldable pub datagrams : SeqEvent → ℕ
+datagrams InOrder = 1
+datagrams (Gap k) = k + 1
+datagrams Stale = 0
+datagrams Restart = 1
 
--- the waiting total walks a copy of the tracker, as backlog_datagrams does
+-- the waiting total walks a copy of the tracker, as backlog_datagrams does; a gap over the limit is a restart here too
 unfoldable pub backlog : ℕ → SeqTracker → List ℕ → ℕ
 backlog limit t [] = 0
 backlog limit t (seq ∷ waiting) =
-    walked limit (observed t seq .event) + backlog limit (observed t seq .tracker) waiting
+    datagrams (capped limit (observed t seq .event)) + backlog limit (observed t seq .tracker) waiting
 
 -- the tracker as an accepted arrival leaves it, by the number expected next
 abbrev pub expecting : ℕ → SeqTracker

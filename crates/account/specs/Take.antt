@@ -1,15 +1,16 @@
 -- Take: hands out I, Q pairs up to buffer or queue, closes the read, sets delivering. Definitions only.
 use Prim.Native.Nat.{ℕ, _+_, _*_, _/_, min}
+use mathlib.Core.Bool.{not}
 use mathlib.Core.List.{List, []}
 use lib.ListN.{length, take, drop}
-use lib.Dec.{ltb, eqb}
+use lib.Dec.{ltb}
 use lib.Ieee.{Float}
 use Rattle.octets.specs.Pick.{pick}
 use Rattle.octets.specs.Written.{written}
 use Rattle.stall.specs.Episode.{delivered}
 use Rattle.account.specs.Answer.{took}
 use Rattle.account.specs.Host.{Step}
-use Rattle.account.specs.State.{State, left, notReading, fell, replied, refuse}
+use Rattle.account.specs.State.{State, left, waits, notReading, fell, replied, refuse}
 use Rattle.account.specs.Pass.{shut}
 use Rattle.account.specs.Parts.{with-last-reading}
 use Rattle.account.specs.declared.receiver.Receiver.{Receiver}
@@ -46,5 +47,5 @@ takeOut st now buffer =
     pick (notReading (st .session)) (refuse 10 [] buffer st)
     (pick (fell (st .session) now) (refuse 11 [] buffer st)
     (pick (ltb (length buffer) 2) (refuse 16 [] buffer st)
-    (pick (eqb (left (st .session .receiver)) 0) (refuse 17 [] buffer st)
+    (pick (not (waits (st .session .receiver))) (refuse 17 [] buffer st)
     (handOut st now buffer (min (length buffer / 2) (left (st .session .receiver)))))))

@@ -14,7 +14,7 @@ use Rattle.account.specs.Refusals.{lentPackets, lentBuffer}
 use Rattle.octets.specs.Pick.{pick}
 use mathlib.Core.Bool.{Bool}
 use Rattle.account.specs.Session.{step, session}
-use Rattle.account.specs.Parts.{with-receiver, with-tracker}
+use Rattle.account.specs.Parts.{with-receiver, with-tracker, with-queue-pos}
 use Rattle.account.specs.Lists.{silence}
 use Rattle.account.specs.Demand3.{Meets}
 use Rattle.account.specs.Exact.{TellsAll}
@@ -80,24 +80,8 @@ restarts = telling restartLater
 
 -- ---- the queue
 
-abbrev pub with-queue-pos : State → ℕ → State
-with-queue-pos st at =
-    record {
-      session =
-          with-receiver (st .session)
-          (record {
-            tracker = st .session .receiver .tracker;
-            «queue_pos» = at;
-            reading = st .session .receiver .reading;
-            parked = st .session .receiver .parked;
-            pending = st .session .receiver .pending;
-            «last_valid_iq» = st .session .receiver .«last_valid_iq»;
-            «last_accepted_iq» = st .session .receiver .«last_accepted_iq»;
-            «read_returned» = st .session .receiver .«read_returned»;
-            stall = st .session .receiver .stall;
-          });
-      samples = st .samples;
-    }
+abbrev pub queuedAt : ℕ → State → State
+queuedAt at st = record { session = with-receiver (st .session) (with-queue-pos (st .session .receiver) at); samples = st .samples }
 
 -- the state after a Close, a Take or an Arrival, made by one of these
 abbrev pub leaving : (State → State) → (State → State) → (Incoming → Answer → State → State) → State → Call → Step State
@@ -113,11 +97,11 @@ leaving closed taken came st TakeStalled = step st TakeStalled
 
 -- Close empties the queue
 abbrev pub drops : Host
-drops = with (leaving (λ st. with-queue-pos st 238) (λ st. st) (λ i a st. st))
+drops = with (leaving (queuedAt 238) (λ st. st) (λ i a st. st))
 
 -- a Take leaves what it handed out in the queue
 abbrev pub twice : Host
-twice = with (leaving (λ st. st) (λ st. with-queue-pos st 0) (λ i a st. st))
+twice = with (leaving (λ st. st) (queuedAt 0) (λ i a st. st))
 
 -- ---- the tracker
 
@@ -138,14 +122,14 @@ onStale stale other InOrder = other
 onStale stale other (Gap k) = other
 onStale stale other Restart = other
 
--- a tracker after a Stale, and after any other answer to a datagram
+-- the tracker after a Stale, after a datagram that is no valid I/Q, and after any other answer
 abbrev pub byAnswer : SeqTracker → SeqTracker → SeqTracker → Answer → SeqTracker
-byAnswer stale malformed other (heard event m) = onStale stale other event
-byAnswer stale malformed other (done word) = malformed
-byAnswer stale malformed other (refused number) = other
-byAnswer stale malformed other (took n) = other
-byAnswer stale malformed other (slot held) = other
-byAnswer stale malformed other (flag stalled) = other
+byAnswer stale unheard other (heard event m) = onStale stale other event
+byAnswer stale unheard other (done word) = unheard
+byAnswer stale unheard other (refused number) = other
+byAnswer stale unheard other (took n) = other
+byAnswer stale unheard other (slot held) = other
+byAnswer stale unheard other (flag stalled) = other
 
 -- Stale moves the expected number
 abbrev pub advances : Host
@@ -155,7 +139,7 @@ advances = tracking (λ count a t. byAnswer (record { expected = Next (after cou
 abbrev pub bears : Host
 bears = tracking (λ count a t. byAnswer (record { expected = t .expected; «stale_run» = min (t .«stale_run») 6 }) t t a)
 
--- a malformed datagram empties the stale run
+-- a datagram that is no valid I/Q, a malformed one too, empties the stale run
 abbrev pub resets : Host
 resets = tracking (λ count a t. byAnswer t (record { expected = t .expected; «stale_run» = 0 }) t a)
 
