@@ -20,7 +20,7 @@ use Rattle.wire.specs.Status.{overloaded}
 use Rattle.account.specs.Routing.{Routed, iq, status, ignored, malformed}
 use Rattle.account.specs.Host.{Incoming, Call, Begin, Pass, Arrival, Take, Close, TakeMissing, TakeDiscontinuity, TakeStalled, Step}
 use Rattle.account.specs.State.{State, left, keeping}
-use Rattle.account.specs.Sending.{Sending, idle, then, packetOf, send, sendHigh, sendRxTx, sendGeneral, highIfDue, rxTxIfDue, generalIfDue, keepalive, applied, stepped, tick, duePackets, stopPackets}
+use Rattle.account.specs.Sending.{Sending, idle, then, sizeOf, packetOf, send, sendHigh, sendRxTx, sendGeneral, highIfDue, rxTxIfDue, generalIfDue, keepalive, applied, stepped, tick, duePackets, stopPackets}
 use Rattle.account.specs.Begin.{begin}
 use Rattle.account.specs.Pass.{stallSoft, stallHard, passed, pass}
 use Rattle.account.specs.Arrival.{hear, heardAs, heardIq, overload, heardStatus, heardMalformed, arrived, arrival}
@@ -42,27 +42,21 @@ pub record Within (n k : ℕ) (out : Sending) : Type 0 where
   pub octets : length (out .octets) ≤ n
   pub streams : length (out .streams) ≤ k
 
-abbrev size : Stream → ℕ
-size General = 60
-size RxSpecific = 1444
-size TxSpecific = 60
-size HighPriority = 1444
-
-packet-size : (k : Stream) (run : Bool) (c : Common) → length (packetOf k run c) ≡ size k
+pub packet-size : (k : Stream) (run : Bool) (c : Common) → length (packetOf k run c) ≡ sizeOf k
 unfolding packetOf
 packet-size General run c = general-length _ _
 packet-size RxSpecific run c = rx-length _ _ _
 packet-size TxSpecific run c = tx-length _
 packet-size HighPriority run c = high-length _ _ _ _ _ _
 
-send-within : (k : Stream) (run : Bool) (c : Common) → Within (size k) 1 (send k run c)
+pub send-within : (k : Stream) (run : Bool) (c : Common) → Within (sizeOf k) 1 (send k run c)
 unfolding send
 send-within k run c = record { octets = omega (arith, packet-size k run c); streams = omega arith }
 
 idle-within : (n k : ℕ) (c : Common) → Within n k (idle c)
 idle-within n k c = record { octets = omega arith; streams = omega arith }
 
-then-within : (n k m j : ℕ) (out : Sending) (f : Common → Sending) → Within n k out → ((c : Common) → Within m j (f c)) → Within (n + m) (k + j) (then out f)
+pub then-within : (n k m j : ℕ) (out : Sending) (f : Common → Sending) → Within n k out → ((c : Common) → Within m j (f c)) → Within (n + m) (k + j) (then out f)
 then-within n k m j out f h g =
     let w = g (out .common) in
     record {
@@ -70,31 +64,41 @@ then-within n k m j out f h g =
       streams = omega (arith, length-append (out .streams) (f (out .common) .streams), h .streams, w .streams);
     }
 
-high-within : (now : ℕ) (c : Common) → Within 1444 1 (sendHigh now c)
+pub high-within : (now : ℕ) (c : Common) → Within 1444 1 (sendHigh now c)
 unfolding sendHigh
 high-within now c = send-within HighPriority true _
 
-keepalive-within : (now : ℕ) (c : Common) → Within 3008 4 (keepalive now c)
-unfolding keepalive highIfDue rxTxIfDue generalIfDue sendRxTx sendGeneral
+pub high-due-within : (now : ℕ) (c : Common) → Within 1444 1 (highIfDue now c)
+unfolding highIfDue
+high-due-within now c = pick-either _ _ _ (Within 1444 1) (λ _. high-within now c) (λ _. idle-within 1444 1 c)
+
+pub rx-tx-due-within : (now : ℕ) (c : Common) → Within 1504 2 (rxTxIfDue now c)
+unfolding rxTxIfDue sendRxTx
+rx-tx-due-within now c =
+    pick-either _ _ _ (Within 1504 2)
+    (λ _. then-within 1444 1 60 1 _ (λ (d : Common). send TxSpecific true d) (send-within RxSpecific true _) (λ d. send-within TxSpecific true d))
+    (λ _. idle-within 1504 2 c)
+
+pub general-due-within : (now : ℕ) (c : Common) → Within 60 1 (generalIfDue now c)
+unfolding generalIfDue sendGeneral
+general-due-within now c = pick-either _ _ _ (Within 60 1) (λ _. send-within General true _) (λ _. idle-within 60 1 c)
+
+pub keepalive-within : (now : ℕ) (c : Common) → Within 3008 4 (keepalive now c)
+unfolding keepalive
 keepalive-within now c =
-    then-within 1444 1 1564 3 (highIfDue now c) (λ (d : Common). then (rxTxIfDue now d) (generalIfDue now))
-    (pick-either _ _ _ (Within 1444 1) (λ _. high-within now c) (λ _. idle-within 1444 1 c)) λ d.
-    then-within 1504 2 60 1 (rxTxIfDue now d) (generalIfDue now)
-    (pick-either _ _ _ (Within 1504 2)
-    (λ _. then-within 1444 1 60 1 _ (λ (e : Common). send TxSpecific true e) (send-within RxSpecific true _) (λ e. send-within TxSpecific true e))
-    (λ _. idle-within 1504 2 d)) λ e.
-    pick-either _ _ _ (Within 60 1) (λ _. send-within General true _) (λ _. idle-within 60 1 e)
+    then-within 1444 1 1564 3 (highIfDue now c) (λ (d : Common). then (rxTxIfDue now d) (generalIfDue now)) (high-due-within now c) λ d.
+    then-within 1504 2 60 1 (rxTxIfDue now d) (generalIfDue now) (rx-tx-due-within now d) (λ e. general-due-within now e)
 
 applied-within : (now : ℕ) (made : AttenuationStep) (c : Common) → Within 1444 1 (applied now made c)
 unfolding applied
 applied-within now step.NoStep c = idle-within 1444 1 c
 applied-within now (step.Step from to cause) c = high-within now c
 
-stepped-within : (now : ℕ) (made : Stepped) (c : Common) → Within 1444 1 (stepped now made c)
+pub stepped-within : (now : ℕ) (made : Stepped) (c : Common) → Within 1444 1 (stepped now made c)
 unfolding stepped
 stepped-within now made c = applied-within now (made .step) _
 
-tick-within : (now : ℕ) (a : Attenuation) (c : Common) → Within 1444 1 (tick now a c)
+pub tick-within : (now : ℕ) (a : Attenuation) (c : Common) → Within 1444 1 (tick now a c)
 unfolding tick
 tick-within now Off c = idle-within 1444 1 c
 tick-within now (On controller) c = stepped-within now _ c

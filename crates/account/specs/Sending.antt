@@ -42,6 +42,13 @@ abbrev pub level : Attenuation → ℕ
 level Off = 0
 level (On controller) = controller .db
 
+-- the octets of a stream's packet
+abbrev pub sizeOf : Stream → ℕ
+sizeOf General = 60
+sizeOf RxSpecific = 1444
+sizeOf TxSpecific = 60
+sizeOf HighPriority = 1444
+
 -- a stream's next count
 abbrev pub countOf : Stream → Common → ℕ
 countOf k c = getD (c .seq) (offsetOf k) 0

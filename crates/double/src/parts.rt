@@ -1,9 +1,8 @@
 // A double taken apart, over its bits.
 ghost use mathlib.Core.Path.{_≡_};
-ghost use Prim.Native.Nat.{_+_, min};
+ghost use Prim.Native.Nat.{min};
 ghost use lib.Dec.{T};
 ghost use lib.Ieee.Scale.{finite};
-ghost use Rattle.double.specs.Whole.{most};
 ghost use Rattle.double.specs.Parts.{PartsOf, SplitOf, NearOf};
 use super::whole::is_finite;
 
@@ -111,11 +110,4 @@ pub(crate) fn near(x: f64) -> Mixed
         rest: 0,
         unit: 1,
     }
-}
-
-// Rust's `n.saturating_add(k)`.
-pub(crate) fn saturating_add(n: u64, k: u64) -> u64
-    ensures { λ r. ⌜ r ≡ min (n + k) most ⌝ }
-{
-    if n <= MOST - k { n + k } else { MOST }
 }

@@ -1,12 +1,12 @@
 // What a stream's elapsed time and rate give: 01, Numbers in the stream.
 ghost use mathlib.Core.Path.{_≡_};
 ghost use Rattle.double.specs.Stream.{jumpLimit, restartMissing, accountTime, coveredTime, belowHalf};
-use super::parts::saturating_add;
 use super::time::nanoseconds;
 use super::time::seconds;
 use super::whole::ceil_u64;
 use super::whole::floor_u64;
 use super::whole::round;
+use super::whole::saturating_add;
 
 // The Rust's constant: the datagrams that a socket buffer can hold at most.
 const MAX_BUFFERED_DATAGRAMS: u64 = 8192;

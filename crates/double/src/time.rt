@@ -5,8 +5,8 @@ ghost use Rattle.double.specs.Seconds.{secondsOf, nanosOf};
 ghost use Rattle.double.specs.Parts.{toEven, nanosBy};
 use super::parts::MOST;
 use super::parts::apart;
-use super::parts::saturating_add;
 use super::whole::is_finite;
+use super::whole::saturating_add;
 
 // Rust's `saturating_duration_since`: the nanoseconds from one reading to another, 0 where that lies before it.
 pub fn since(now: u64, then: u64) -> u64

@@ -1,14 +1,15 @@
 // Whether a double is finite or whole, and the whole numbers near it, as Rust's `as`, `floor`, `ceil` and `round` have them.
 ghost use mathlib.Core.Path.{_≡_};
 ghost use mathlib.Core.Bool.{false};
+ghost use Prim.Native.Nat.{_+_, min};
 ghost use lib.IntN.{pos};
 ghost use lib.Ieee.{fin, lt, toUnsigned};
 ghost use lib.Ieee.Scale.{finite};
-ghost use Rattle.double.specs.Whole.{floorOf, ceilOf, roundOf, rounded, isWhole};
+ghost use Rattle.double.specs.Whole.{most, floorOf, ceilOf, roundOf, rounded, isWhole};
 use super::parts::EXPONENT;
+use super::parts::MOST;
 use super::parts::SIGN;
 use super::parts::near;
-use super::parts::saturating_add;
 use super::parts::split;
 
 pub fn is_finite(x: f64) -> bool
@@ -42,6 +43,13 @@ pub fn cast_u32(x: f64) -> u32
 {
     let n = floor_u64(x);
     if n < 4294967296 { n as u32 } else { 4294967295 }
+}
+
+// Rust's `n.saturating_add(k)`.
+pub fn saturating_add(n: u64, k: u64) -> u64
+    ensures { λ r. ⌜ r ≡ min (n + k) most ⌝ }
+{
+    if n <= MOST - k { n + k } else { MOST }
 }
 
 // Rust's `x.ceil() as u64`.

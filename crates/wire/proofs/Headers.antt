@@ -71,6 +71,12 @@ module _ (b : List ℕ) where
       let t = three (eqb (length b) 1444) (eqb (beAt 2 b 12) 24) (eqb (beAt 2 b 14) 238) _ _ _ _ _ _ (beAt 4 b 0 ∷ []) (seq ∷ []) (sym h) in
       (eqb-true (length b) 1444 (t .0), eqb-true (beAt 2 b 12) 24 (t .1), eqb-true (beAt 2 b 14) 238 (t .2), let e = t .3 in cc)
 
+  -- what a header gives is the count, and nothing else
+  pub given-count : (vs : List ℕ) → gives vs ≡ headerTold b → vs ≡ beAt 4 b 0 ∷ []
+  unfolding headerTold rows
+  given-count vs h =
+      sym (three (eqb (length b) 1444) (eqb (beAt 2 b 12) 24) (eqb (beAt 2 b 14) 238) _ _ _ _ _ _ (beAt 4 b 0 ∷ []) vs (sym h) .3)
+
   refused-alike : (k : ℕ) (vs : List ℕ) (room : ℕ) → refused k vs ≡ headerTold b → refused k vs ≡ parseTold b room
   unfolding headerTold parseTold rows
   refused-alike k vs room h = kept (eqb (length b) 1444) (eqb (beAt 2 b 12) 24) (eqb (beAt 2 b 14) 238) _ _ _ k _ _ _ (beAt 4 b 0 ∷ []) vs _ h
@@ -101,3 +107,8 @@ module _ (b : List ℕ) (d : List Float) where
     parsed-count e l w =
         let t : gives (seq ∷ []) ≡ parseTold b (length d) = ap (λ (n : ℕ). gives (n ∷ [])) (right-header b seq h .3) ∙ sym (roomed ∙ pick-f _ _ _ (le-ltb (length d) 476 l)) in
         record { answer = t; holds = w ∙ ap (λ (t : Told). parseOut t b d) t }
+
+    -- what the parser leaves of a datagram with a right header, in a buffer with room
+    pub parsed-samples : (r : IqAnswer) (e : List Float) → 476 ≤ length d → Parsed b d r e → e ≡ written d 0 (samplesOf b)
+    unfolding parseOut
+    parsed-samples r e l p = p .holds ∙ ap (λ (t : Told). parseOut t b d) (roomed ∙ pick-f _ _ _ (le-ltb (length d) 476 l))

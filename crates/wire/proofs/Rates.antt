@@ -3,19 +3,19 @@ use mathlib.Core.Path.{_≡_, sym, ap, _∙_, subst}
 use Prim.Native.Nat.{ℕ, _*_, _≤_, _<_}
 use native.Mathlib.Nat.{le-trans, mul-pos, zero-lt-suc}
 use native.Mathlib.Omega.{arith}
-use mathlib.Core.Bool.{Bool, false, _&&_}
-use mathlib.Core.List.{[], _∷_}
-use borrow.Author.Tests.{lt-ltb, le-ltb}
-use lib.ListN.{length, getD}
+use mathlib.Core.Bool.{Bool, true, false, _&&_}
+use mathlib.Core.List.{List, [], _∷_}
+use borrow.Author.Tests.{ltb-false, lt-ltb, le-ltb}
+use lib.ListN.{length, getD, List·getD-eq-default}
 use lib.Dec.{T, ltb, leb, ltb→lt, leb→le, lit≤}
 use lib.IntN.{pos}
 use lib.Ieee.{Float, fin, binary64, ofInt, mul, eq}
 use lib.Ieee.Fits.{and-l, and-r}
 use lib.Ieee.Exact.{HasValue}
 use lib.Ieee.Back.{round-whole}
-use Rattle.octets.proofs.Picks.{pick-t, pick-f}
+use Rattle.octets.proofs.Picks.{pick-t, pick-f, pick-either}
 use Rattle.double.proofs.Values.{mul-whole, value-of-eq}
-use Rattle.wire.specs.Answer.{gives, refused}
+use Rattle.wire.specs.Answer.{Told, gives, refused}
 use Rattle.wire.specs.Search.{first}
 use Rattle.wire.specs.Rate.{rates, isKhz, rateAt, isRate, khzOf, rateTold}
 use Rattle.wire.proofs.Searches.{first-holds, every-at}
@@ -42,6 +42,10 @@ unfolding ofInt
 tested x i h = ap (λ (y : Float). eq y x) (mul-whole binary64 (getD rates i 0) 1000 (le-trans (most-khz i h) (lit≤ tt)) (lit≤ tt))
 
 -- ---- the answers
+
+no-told : {A : Type 0} (k : ℕ) (vs : List ℕ) → gives (k ∷ []) ≡ refused 3 vs → A
+no-told k vs h = let z : _≡_ {A = ℕ} 0 1 = cc in absurd (omega arith)
+
 pub told-khz : (x : Float) (i : ℕ) → i < length rates → i ≡ first (isKhz x) rates → gives (getD rates i 0 ∷ []) ≡ rateTold x
 unfolding rateAt isRate khzOf rateTold
 told-khz x i h e =
@@ -50,6 +54,19 @@ told-khz x i h e =
 pub told-none : (x : Float) (i : ℕ) → length rates ≤ i → i ≡ first (isKhz x) rates → refused 3 [] ≡ rateTold x
 unfolding rateAt isRate khzOf rateTold
 told-none x i h e = sym (pick-f _ _ _ (le-ltb (rateAt x) 4 (subst (λ (k : ℕ). 4 ≤ k) e h)))
+
+-- the other way round: a rate that is given is accepted, and so many kHz; one that is refused is none, and 0
+pub given-khz : (x : Float) (khz : ℕ) → gives (khz ∷ []) ≡ rateTold x → (isRate x ≡ true) × (khz ≡ khzOf x)
+unfolding rateTold
+given-khz x khz = pick-either (isRate x) _ _ (λ (t : Told). gives (khz ∷ []) ≡ t → (isRate x ≡ true) × (khz ≡ khzOf x)) (λ b h. (b, cc)) (λ b h. no-told khz _ h)
+
+pub refused-rate : (x : Float) → refused 3 [] ≡ rateTold x → isRate x ≡ false
+unfolding rateTold
+refused-rate x = pick-either (isRate x) _ _ (λ (t : Told). refused 3 [] ≡ t → isRate x ≡ false) (λ b h. no-told _ _ (sym h)) (λ b h. b)
+
+pub refused-khz : (x : Float) → refused 3 [] ≡ rateTold x → khzOf x ≡ 0
+unfolding isRate khzOf
+refused-khz x h = List·getD-eq-default rates 0 (ltb-false (rateAt x) (length rates) (refused-rate x h))
 
 -- ---- an accepted rate
 module _ (x : Float) (t : T (isRate x)) where

@@ -1,0 +1,119 @@
+-- Arrival: its rows in order, and a status packet's and a malformed datagram's answers. Assumes nothing.
+use Prim.Native.Nat.{ℕ, _+_, _≤_, _<_, min}
+use mathlib.Core.Path.{_≡_, refl, sym, ap, _∙_}
+use mathlib.Core.Bool.{true, false}
+use mathlib.Core.List.{List, [], _∷_}
+use lib.ListN.{length}
+use lib.Dec.{leb}
+use borrow.Author.Tests.{lt-ltb, le-ltb, le-leb, lt-leb}
+use Rattle.octets.proofs.Picks.{pick-t, pick-f}
+use Rattle.wire.specs.Answer.{Told, gives}
+use Rattle.wire.specs.Status.{overloadTold, overloaded, overloadAnswer}
+use Rattle.wire.specs.declared.status.OverloadBits.{OverloadBits}
+use Rattle.wire.specs.declared.status.OverloadBits.the-variants.{Bits, NoBits}
+use Rattle.attenuator.specs.Controller as Controller
+use Rattle.attenuator.specs.declared.Controller.{Controller}
+use Rattle.health.specs.Counters.{countMalformed}
+use Rattle.health.specs.declared.InputHealthCounters.{InputHealthCounters}
+use Rattle.account.specs.Answer.{Answer, done, ignored, status, malformed, malformedLimit}
+use Rattle.account.specs.Host.{Incoming, Step}
+use Rattle.account.specs.State.{State, waits, notReading, fell, refuse}
+use Rattle.account.specs.Sending.{stepped, wrote}
+use Rattle.account.specs.Pass.{shut}
+use Rattle.account.specs.Parts.{with-common, with-receiver, with-consecutive-malformed, with-health}
+use Rattle.account.specs.Arrival.{told, overload, heardStatus, oneMore, heardMalformed, arrived, atReading, route, arrival}
+use Rattle.account.specs.declared.receiver.Receiver.{Receiver}
+use Rattle.account.specs.declared.session.Attenuation.{Attenuation}
+use Rattle.account.specs.declared.session.Attenuation.the-variants.{Off, On}
+use Rattle.account.specs.declared.session.Session.{Session}
+
+-- ---- the rows
+
+module _ (st : State) (i : Incoming) (d : List ℕ) where
+  pub row-10 : notReading (st .session) ≡ true → arrival st i d ≡ refuse 10 d [] st
+  unfolding arrival
+  row-10 h = pick-t _ _ _ h
+
+  module _ (reading : notReading (st .session) ≡ false) where
+    pub row-11 : fell (st .session) (i .now) ≡ true → arrival st i d ≡ refuse 11 d [] st
+    unfolding arrival
+    row-11 h = pick-f _ _ _ reading ∙ pick-t _ _ _ h
+
+    module _ (on : fell (st .session) (i .now) ≡ false) where
+      pub row-12 : waits (st .session .receiver) ≡ true → arrival st i d ≡ refuse 12 d [] st
+      unfolding arrival
+      row-12 h = pick-f _ _ _ reading ∙ pick-f _ _ _ on ∙ pick-t _ _ _ h
+
+      module _ (empty : waits (st .session .receiver) ≡ false) where
+        pub row-13 : i .later < i .now → arrival st i d ≡ refuse 13 d [] st
+        unfolding arrival
+        row-13 h = pick-f _ _ _ reading ∙ pick-f _ _ _ on ∙ pick-f _ _ _ empty ∙ pick-t _ _ _ (lt-ltb (i .later) (i .now) h)
+
+        module _ (later : i .now ≤ i .later) where
+          pub row-14 : 8192 < length (i .waiting) → arrival st i d ≡ refuse 14 d [] st
+          unfolding arrival
+          row-14 h =
+              pick-f _ _ _ reading ∙ pick-f _ _ _ on ∙ pick-f _ _ _ empty ∙ pick-f _ _ _ (le-ltb (i .later) (i .now) later)
+              ∙ pick-t _ _ _ (lt-ltb 8192 (length (i .waiting)) h)
+
+          module _ (few : length (i .waiting) ≤ 8192) where
+            pub row-15 : length d < 1444 → arrival st i d ≡ refuse 15 d [] st
+            unfolding arrival
+            row-15 h =
+                pick-f _ _ _ reading ∙ pick-f _ _ _ on ∙ pick-f _ _ _ empty ∙ pick-f _ _ _ (le-ltb (i .later) (i .now) later)
+                ∙ pick-f _ _ _ (le-ltb 8192 (length (i .waiting)) few) ∙ pick-t _ _ _ (lt-ltb (length d) 1444 h)
+
+            pub no-row : 1444 ≤ length d → arrival st i d ≡ arrived (atReading st (i .later)) i d (route st i)
+            unfolding arrival
+            no-row h =
+                pick-f _ _ _ reading ∙ pick-f _ _ _ on ∙ pick-f _ _ _ empty ∙ pick-f _ _ _ (le-ltb (i .later) (i .now) later)
+                ∙ pick-f _ _ _ (le-ltb 8192 (length (i .waiting)) few) ∙ pick-f _ _ _ (le-ltb (length d) 1444 h)
+
+-- ---- a status packet
+
+module _ (s : Session) (i : Incoming) (d : List ℕ) where
+  pub status-off : s .common .attenuator .attenuation ≡ Off → heardStatus s i d ≡ told (done ignored) d s
+  unfolding heardStatus overload
+  status-off e = ap (λ (a : Attenuation). overload s i d a (overloadTold (i .octets))) e
+
+  module _ (controller : Controller) (on : s .common .attenuator .attenuation ≡ On controller) (r : OverloadBits) (t : overloadAnswer r ≡ overloadTold (i .octets)) where
+    heard-on : heardStatus s i d ≡ overload s i d (On controller) (overloadAnswer r)
+    unfolding heardStatus
+    heard-on = ap (λ (a : Attenuation). overload s i d a (overloadTold (i .octets))) on ∙ ap (overload s i d (On controller)) (sym t)
+
+    pub status-unread : r ≡ NoBits → heardStatus s i d ≡ told (done ignored) d s
+    unfolding overload
+    status-unread e = heard-on ∙ ap (λ (x : OverloadBits). overload s i d (On controller) (overloadAnswer x)) e
+
+    pub status-read : (bits : ℕ) → r ≡ Bits bits
+        → heardStatus s i d ≡ wrote (done status) s d (stepped (i .later) (Controller.observed controller (overloaded bits) (i .now)) (s .common))
+    unfolding overload
+    status-read bits e = heard-on ∙ ap (λ (x : OverloadBits). overload s i d (On controller) (overloadAnswer x)) e
+
+-- ---- a malformed datagram
+
+module _ (s : Session) (d : List ℕ) (h : InputHealthCounters) (n : ℕ) (eh : h ≡ countMalformed (s .common .health))
+    (en : n ≡ min (s .common .«consecutive_malformed» + 1) 4294967295) where
+  abbrev after : Session
+  after = with-common s (with-health (with-consecutive-malformed (s .common) n) h)
+
+  after-is : after ≡ oneMore s
+  unfolding oneMore
+  after-is =
+      ap (λ (x : InputHealthCounters). with-common s (with-health (with-consecutive-malformed (s .common) n) x)) eh
+      ∙ ap (λ (k : ℕ). with-common s (with-health (with-consecutive-malformed (s .common) k) (countMalformed (s .common .health)))) en
+
+  count-is : oneMore s .common .«consecutive_malformed» ≡ n
+  count-is = ap (λ (x : Session). x .common .«consecutive_malformed») (sym after-is)
+
+  pub malformed-limit : (q : Receiver) → s .common .settings .«max_consecutive_malformed» ≤ n → q ≡ shut (s .receiver)
+      → heardMalformed s d ≡ told (done malformedLimit) d (with-receiver after q)
+  unfolding heardMalformed
+  malformed-limit q l eq =
+      pick-t _ _ _ (ap (leb (s .common .settings .«max_consecutive_malformed»)) count-is ∙ le-leb _ _ l)
+      ∙ ap (λ (x : Session). told (done malformedLimit) d (with-receiver x (shut (x .receiver)))) (sym after-is)
+      ∙ ap (λ (x : Receiver). told (done malformedLimit) d (with-receiver after x)) (sym eq)
+
+  pub malformed-on : n < s .common .settings .«max_consecutive_malformed» → heardMalformed s d ≡ told (done malformed) d after
+  unfolding heardMalformed
+  malformed-on l = pick-f _ _ _ (ap (leb (s .common .settings .«max_consecutive_malformed»)) count-is ∙ lt-leb _ _ l) ∙ ap (told (done malformed) d) (sym after-is)

@@ -1,0 +1,26 @@
+-- `session::open::attenuation_at` meets its contract. Assumes nothing.
+use mathlib.Core.Path.{sym, ap, _∙_}
+use Rattle.octets.proofs.Picks.{pick-t, pick-f}
+use Rattle.attenuator.specs.Controller.{opened}
+use Rattle.account.specs.Open.{attenuationAt}
+use Rattle.account.specs.declared.session.Attenuation.the-variants.{On}
+use borrow.Author.Needs.{needs}
+use Rattle.session.proofs.open.attenuation_at.Statement.{statement}
+use Rattle.session.proofs.open.attenuation_at.Tie as tie
+
+default-requires : tie.Need-default-requires
+default-requires c κs = search needs
+
+new-requires : tie.Need-new-requires
+new-requires c κs = search needs
+
+returns : tie.Need-returns
+unfolding attenuationAt
+returns c = ap On (c .new .ensures ∙ ap (opened 0 (c .before .before .before .args .now)) (c .before .default .ensures)) ∙ sym (pick-t _ _ _ (c .before .before .if1 .taken))
+
+returns-2 : tie.Need-returns-2
+unfolding attenuationAt
+returns-2 c = sym (pick-f _ _ _ (c .if1 .left))
+
+pub attenuation-at-spec : {M : Type 1} → statement M
+attenuation-at-spec = tie.close (tie.spec default-requires new-requires returns returns-2)

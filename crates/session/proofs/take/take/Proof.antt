@@ -1,0 +1,101 @@
+-- `session::take::take` meets its contract: four rows, then pairs are copied out. Assumes nothing.
+use Prim.Native.Nat.{_<_, min}
+use mathlib.Core.Path.{_≡_, refl, sym, ap, _∙_}
+use mathlib.Core.Bool.{true, not}
+use lib.ListN.{length}
+use native.Mathlib.Omega.{arith}
+use borrow.Author.Tests.{lt-ltb, le-ltb, not-true, not-false}
+use Rattle.octets.proofs.Picks.{pick-t, pick-f}
+use Rattle.session.proofs.Tests.{was}
+use Rattle.account.specs.State as State
+use Rattle.account.specs.Take as Take
+use Rattle.session.specs.Gives.{joined}
+use Rattle.session.proofs.Takes.{within, taken-out}
+use borrow.Author.Needs.{needs}
+use Rattle.session.proofs.take.take.Statement.{statement}
+use Rattle.session.proofs.take.take.Tie as tie
+
+not-reading-requires : tie.Need-not-reading-requires
+not-reading-requires c κs = search needs
+
+returns : tie.Need-returns
+unfolding Take.takeOut
+returns c = sym (pick-t _ _ _ (was (c .before .not-reading .ensures) (c .if1 .taken)))
+
+fell-requires : tie.Need-fell-requires
+fell-requires c κs = search needs
+
+returns-2 : tie.Need-returns-2
+unfolding Take.takeOut
+returns-2 c = sym (pick-f _ _ _ (was (c .before .before .before .not-reading .ensures) (c .before .before .if1 .left)) ∙ pick-t _ _ _ (was (c .before .fell .ensures) (c .if2 .taken)))
+
+returns-3 : tie.Need-returns-3
+unfolding Take.takeOut
+returns-3 c = sym
+    (pick-f _ _ _ (was (c .before .before .before .before .not-reading .ensures) (c .before .before .before .if1 .left)) ∙ pick-f _ _ _ (was (c .before .before .fell .ensures) (c .before .if2 .left))
+    ∙ pick-t _ _ _ (lt-ltb (length (c .before .before .before .before .before .before .args .buffer .now)) 2 (c .if3 .taken)))
+
+waits-requires : tie.Need-waits-requires
+waits-requires c κs = search needs
+
+returns-4 : tie.Need-returns-4
+unfolding Take.takeOut
+returns-4 c = sym
+    (pick-f _ _ _ (was (c .before .before .before .before .before .before .before .not-reading .ensures) (c .before .before .before .before .before .before .if1 .left)) ∙ pick-f _ _ _ (was (c .before .before .before .before .before .fell .ensures) (c .before .before .before .before .if2 .left))
+    ∙ pick-f _ _ _ (le-ltb (length (c .before .before .before .before .before .before .before .before .before .args .buffer .now)) 2 (c .before .before .before .if3 .left))
+    ∙ pick-t _ _ _ (ap not (was (c .before .waits .ensures) (not-true _ (c .if4 .taken)))))
+
+left-requires : tie.Need-left-requires
+left-requires c κs = search needs
+
+least-requires : tie.Need-least-requires
+least-requires c κs = search needs
+
+-- where samples wait, the queue's position is within the datagram
+small : (c : tie.Else4) → c .before .before .before .before .before .before .before .before .before .args .s .receiver .«queue_pos» < 238
+small c = within _ (was (c .before .waits .ensures) (not-false _ (c .if4 .left)))
+
+mul-copy-out : tie.Need-mul-copy-out
+mul-copy-out c = let p = small (c .before .before .before .before) in record { fits = omega (arith, p) }
+
+mul-copy-out-2 : tie.Need-mul-copy-out-2
+mul-copy-out-2 c = search needs
+
+copy-out-requires : tie.Need-copy-out-requires
+unfolding State.left
+copy-out-requires c κs = let p = small (c .before .before .before .before .before) in
+    let n : length (c .before .before .before .before .before .before .before .before .before .before .before .before .before .before .args .samples .now) ≡ 476 = search needs in
+    (omega (arith, p, n, c .before .before .before .least .ensures, c .before .before .before .before .left .ensures), omega (arith, c .before .before .before .least .ensures))
+
+handed-requires : tie.Need-handed-requires
+unfolding State.left
+handed-requires c κs = let p = small (c .before .before .before .before .before .before .before .before) in omega (arith, p, c .before .before .before .before .before .before .least .ensures, c .before .before .before .before .before .before .before .left .ensures)
+
+same-length : tie.Need-same-length
+same-length c = search needs
+
+returns-5 : tie.Need-returns-5
+returns-5 c = let a = c .before .before .before .before .before .before .before .before .before .before .before .before .before .before .before .before .before .before .before .args in
+    taken-out (joined (a .s) (a .samples .now)) (a .reading) (a .buffer .now) _ _ _ (was (c .before .before .before .before .before .before .before .before .before .before .before .before .before .before .before .before .before .not-reading .ensures) (c .before .before .before .before .before .before .before .before .before .before .before .before .before .before .before .before .if1 .left))
+    (was (c .before .before .before .before .before .before .before .before .before .before .before .before .before .before .before .fell .ensures) (c .before .before .before .before .before .before .before .before .before .before .before .before .before .before .if2 .left)) (c .before .before .before .before .before .before .before .before .before .before .before .before .before .if3 .left) (was (c .before .before .before .before .before .before .before .before .before .before .before .waits .ensures) (not-false _ (c .before .before .before .before .before .before .before .before .before .before .if4 .left)))
+    (c .before .before .before .before .before .before .before .before .least .ensures ∙ ap (min _) (c .before .before .before .before .before .before .before .before .before .left .ensures)) (c .before .before .before .before .copy-out .ensures) (c .before .handed .ensures)
+
+pub take-spec : {M : Type 1} → statement M
+take-spec =
+    tie.close
+    (tie.spec
+    not-reading-requires
+    returns
+    fell-requires
+    returns-2
+    returns-3
+    waits-requires
+    returns-4
+    left-requires
+    least-requires
+    mul-copy-out
+    mul-copy-out-2
+    copy-out-requires
+    handed-requires
+    same-length
+    returns-5)

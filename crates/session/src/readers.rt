@@ -1,0 +1,53 @@
+// What a user reads off a session. None of these changes it.
+ghost use mathlib.Core.Path.{_≡_};
+ghost use Rattle.account.specs.Sending as Sending;
+ghost use Rattle.account.specs.State as State;
+ghost use Rattle.health.specs.Counters.{lossTotal};
+use super::send::level;
+use super::state::left;
+use account::session::Session;
+use health::InputHealthCounters;
+
+// Datagrams lost, gaps and malformed datagrams, each modulo 2^64.
+pub fn gap_stats(s: Session) -> InputHealthCounters
+    ensures { λ r. ⌜ r ≡ s .common .health ⌝ }
+{
+    s.common.health
+}
+
+// The samples of the datagrams lost, modulo 2^64.
+pub fn loss_total(s: Session) -> u64
+    ensures { λ r. ⌜ r ≡ lossTotal (s .common .health) ⌝ }
+{
+    let health = s.common.health;
+    health.loss_total()
+}
+
+pub fn sample_rate(s: Session) -> f64
+    ensures { λ r. ⌜ r ≡ s .common .settings .«sample_rate_hz» ⌝ }
+{
+    s.common.settings.sample_rate_hz
+}
+
+pub fn center_freq_hz(s: Session) -> f64
+    ensures { λ r. ⌜ r ≡ s .common .settings .«center_freq_hz» ⌝ }
+{
+    s.common.settings.center_freq_hz
+}
+
+// The attenuation of the moment in dB: 0 with attenuation off.
+pub fn attenuation_db(s: Session) -> u8
+    ensures { λ r. ⌜ r ≡ Sending.level (s .common .attenuator .attenuation) ⌝ }
+{
+    let attenuator = s.common.attenuator;
+    let attenuation = attenuator.attenuation;
+    level(attenuation)
+}
+
+// How many samples wait, as I, Q pairs.
+pub fn waiting_samples(s: Session) -> usize
+    ensures { λ r. ⌜ r ≡ State.left (s .receiver) ⌝ }
+{
+    let receiver = s.receiver;
+    left(receiver)
+}
