@@ -1,5 +1,6 @@
 -- Answers and refusals, demand 3's proof in layers, what stands beside it, and the cases.
 
+pub mod Tests
 pub mod Answers
 pub mod Rows
 pub mod Refusals

@@ -14,7 +14,6 @@ use Rattle.wire.specs.declared.status.OverloadBits.the-variants.{Bits, NoBits}
 use Rattle.attenuator.specs.Controller as Controller
 use Rattle.attenuator.specs.declared.Controller.{Controller}
 use Rattle.health.specs.Counters.{countMalformed}
-use Rattle.health.specs.declared.InputHealthCounters.{InputHealthCounters}
 use Rattle.account.specs.Answer.{Answer, done, ignored, status, malformed, malformedLimit}
 use Rattle.account.specs.Host.{Incoming, Step}
 use Rattle.account.specs.State.{State, waits, notReading, fell, refuse}
@@ -25,6 +24,7 @@ use Rattle.account.specs.Arrival.{told, overload, heardStatus, oneMore, heardMa
 use Rattle.account.specs.declared.receiver.Receiver.{Receiver}
 use Rattle.account.specs.declared.session.Attenuation.{Attenuation}
 use Rattle.account.specs.declared.session.Attenuation.the-variants.{Off, On}
+use Rattle.account.specs.declared.session.Common.{Common}
 use Rattle.account.specs.declared.session.Session.{Session}
 
 -- ---- the rows
@@ -92,28 +92,24 @@ module _ (s : Session) (i : Incoming) (d : List ℕ) where
 
 -- ---- a malformed datagram
 
-module _ (s : Session) (d : List ℕ) (h : InputHealthCounters) (n : ℕ) (eh : h ≡ countMalformed (s .common .health))
-    (en : n ≡ min (s .common .«consecutive_malformed» + 1) 4294967295) where
-  abbrev after : Session
-  after = with-common s (with-health (with-consecutive-malformed (s .common) n) h)
-
-  after-is : after ≡ oneMore s
+module _ (s : Session) (d : List ℕ) (c : Common)
+    (e : c ≡ with-health (with-consecutive-malformed (s .common) (min (s .common .«consecutive_malformed» + 1) 4294967295)) (countMalformed (s .common .health))) where
+  after-is : with-common s c ≡ oneMore s
   unfolding oneMore
-  after-is =
-      ap (λ (x : InputHealthCounters). with-common s (with-health (with-consecutive-malformed (s .common) n) x)) eh
-      ∙ ap (λ (k : ℕ). with-common s (with-health (with-consecutive-malformed (s .common) k) (countMalformed (s .common .health)))) en
+  after-is = ap (with-common s) e
 
-  count-is : oneMore s .common .«consecutive_malformed» ≡ n
+  count-is : oneMore s .common .«consecutive_malformed» ≡ c .«consecutive_malformed»
   count-is = ap (λ (x : Session). x .common .«consecutive_malformed») (sym after-is)
 
-  pub malformed-limit : (q : Receiver) → s .common .settings .«max_consecutive_malformed» ≤ n → q ≡ shut (s .receiver)
-      → heardMalformed s d ≡ told (done malformedLimit) d (with-receiver after q)
+  pub malformed-limit : (q : Receiver) → s .common .settings .«max_consecutive_malformed» ≤ c .«consecutive_malformed» → q ≡ shut (s .receiver)
+      → heardMalformed s d ≡ told (done malformedLimit) d (with-receiver (with-common s c) q)
   unfolding heardMalformed
-  malformed-limit q l eq =
+  malformed-limit q l h =
       pick-t _ _ _ (ap (leb (s .common .settings .«max_consecutive_malformed»)) count-is ∙ le-leb _ _ l)
       ∙ ap (λ (x : Session). told (done malformedLimit) d (with-receiver x (shut (x .receiver)))) (sym after-is)
-      ∙ ap (λ (x : Receiver). told (done malformedLimit) d (with-receiver after x)) (sym eq)
+      ∙ ap (λ (x : Receiver). told (done malformedLimit) d (with-receiver (with-common s c) x)) (sym h)
 
-  pub malformed-on : n < s .common .settings .«max_consecutive_malformed» → heardMalformed s d ≡ told (done malformed) d after
+  pub malformed-on : c .«consecutive_malformed» < s .common .settings .«max_consecutive_malformed» → heardMalformed s d ≡ told (done malformed) d (with-common s c)
   unfolding heardMalformed
-  malformed-on l = pick-f _ _ _ (ap (leb (s .common .settings .«max_consecutive_malformed»)) count-is ∙ lt-leb _ _ l) ∙ ap (told (done malformed) d) (sym after-is)
+  malformed-on l =
+      pick-f _ _ _ (ap (leb (s .common .settings .«max_consecutive_malformed»)) count-is ∙ lt-leb _ _ l) ∙ ap (told (done malformed) d) (sym after-is)

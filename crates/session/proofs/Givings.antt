@@ -6,7 +6,7 @@ use lib.ListN.{length}
 use lib.Ieee.{Float}
 use native.Mathlib.Omega.{arith}
 use Rattle.octets.specs.Written.{written}
-use Rattle.account.specs.Answer.{Answer, passAnswer, arrivalAnswer}
+use Rattle.account.specs.Answer.{Answer, passAnswer, arrivalAnswer, closeAnswer}
 use Rattle.account.specs.Host.{Step}
 use Rattle.account.specs.State.{State, replied, keeping}
 use Rattle.account.specs.Sending.{Sending, wrote}
@@ -14,33 +14,48 @@ use Rattle.account.specs.Stream.{streamsAs}
 use Rattle.account.specs.Parts.{with-common}
 use Rattle.account.specs.declared.answer.Arrived.{Arrived}
 use Rattle.account.specs.declared.answer.ArrivalAnswer.{ArrivalAnswer}
+use Rattle.account.specs.declared.answer.CloseAnswer.{CloseAnswer}
+use Rattle.account.specs.declared.answer.Ended.{Ended}
 use Rattle.account.specs.declared.answer.Passed.{Passed}
 use Rattle.account.specs.declared.answer.PassAnswer.{PassAnswer}
 use Rattle.account.specs.declared.session.Common.{Common}
 use Rattle.account.specs.declared.session.Session.{Session}
 use Rattle.account.specs.declared.stream.Streams.{Streams}
 use Rattle.session.specs.Gives.{Gives, joined}
-use Rattle.session.specs.Progress.{started, HasRoom, Sends}
-use Rattle.session.specs.declared.send.Progress.{Progress}
-use Rattle.session.proofs.Progresses.{sends-first}
+use Rattle.sending.specs.Progress.{started, HasRoom, Sends}
+use Rattle.sending.specs.declared.send.Progress.{Progress}
+use Rattle.sending.proofs.Progresses.{sends-first}
 
 -- ---- nothing was written
 
-pub gives-told : {S : Type 0} (a : Answer) (l : Streams) (d : List ℕ) (s : S) (x : Step S) → l ≡ streamsAs [] → x ≡ replied a [] d [] s → Gives a l d s x
+gives-told : {S : Type 0} (a : Answer) (l : Streams) (d : List ℕ) (s : S) (x : Step S) → l ≡ streamsAs [] → x ≡ replied a [] d [] s → Gives a l d s x
 gives-told {S} a l d s x h e =
     subst (λ (y : Step S). Gives a l d s y) (sym e) (record { answers = refl; lists = h; writes = refl; leaves = refl })
 
-pub passed-told : (r : Passed) (a : PassAnswer) (s : Session) (d : List ℕ) (x : Step Session) → r ≡ record { answer = a; streams = streamsAs []; session = s }
-    → x ≡ replied (passAnswer a) [] d [] s → Gives (passAnswer (r .answer)) (r .streams) d (r .session) x
-passed-told r a s d x h e =
-    subst (λ (y : Passed). Gives (passAnswer (y .answer)) (y .streams) d (y .session) x) (sym h) (gives-told (passAnswer a) (streamsAs []) d s x refl e)
+-- the same of a value that the code was promised to be q
+told-as : {R S : Type 0} (answer : R → Answer) (streams : R → Streams) (state : R → S) (r q : R) (d : List ℕ) (x : Step S) → r ≡ q → streams q ≡ streamsAs []
+    → x ≡ replied (answer q) [] d [] (state q) → Gives (answer r) (streams r) d (state r) x
+told-as {R} answer streams state r q d x h l e =
+    subst (λ (y : R). Gives (answer y) (streams y) d (state y) x) (sym h) (gives-told (answer q) (streams q) d (state q) x l e)
 
-pub arrived-told : (r : Arrived) (a : ArrivalAnswer) (s : Session) (samples : List Float) (d : List ℕ) (x : Step State)
-    → r ≡ record { answer = a; streams = streamsAs []; session = s } → x ≡ replied (arrivalAnswer a) [] d [] (joined s samples)
-    → Gives (arrivalAnswer (r .answer)) (r .streams) d (joined (r .session) samples) x
-arrived-told r a s samples d x h e =
-    subst (λ (y : Arrived). Gives (arrivalAnswer (y .answer)) (y .streams) d (joined (y .session) samples) x) (sym h)
-    (gives-told (arrivalAnswer a) (streamsAs []) d (joined s samples) x refl e)
+module _ (s : Session) (d : List ℕ) where
+  pub passed-told : (r : Passed) (a : PassAnswer) (x : Step Session) → r ≡ record { answer = a; streams = streamsAs []; session = s }
+      → x ≡ replied (passAnswer a) [] d [] s → Gives (passAnswer (r .answer)) (r .streams) d (r .session) x
+  passed-told r a x h e = told-as (λ (y : Passed). passAnswer (y .answer)) (λ y. y .streams) (λ y. y .session) r _ d x h refl e
+
+  pub ended-told : (r : Ended) (a : CloseAnswer) (x : Step Session) → r ≡ record { answer = a; streams = streamsAs []; session = s }
+      → x ≡ replied (closeAnswer a) [] d [] s → Gives (closeAnswer (r .answer)) (r .streams) d (r .session) x
+  ended-told r a x h e = told-as (λ (y : Ended). closeAnswer (y .answer)) (λ y. y .streams) (λ y. y .session) r _ d x h refl e
+
+  pub arrived-told : (r : Arrived) (a : ArrivalAnswer) (x : Step Session) → r ≡ record { answer = a; streams = streamsAs []; session = s }
+      → x ≡ replied (arrivalAnswer a) [] d [] s → Gives (arrivalAnswer (r .answer)) (r .streams) d (r .session) x
+  arrived-told r a x h e = told-as (λ (y : Arrived). arrivalAnswer (y .answer)) (λ y. y .streams) (λ y. y .session) r _ d x h refl e
+
+  -- with the samples beside it
+  pub arrival-told : (samples : List Float) (r : Arrived) (a : ArrivalAnswer) (x : Step State) → r ≡ record { answer = a; streams = streamsAs []; session = s }
+      → x ≡ replied (arrivalAnswer a) [] d [] (joined s samples) → Gives (arrivalAnswer (r .answer)) (r .streams) d (joined (r .session) samples) x
+  arrival-told samples r a x h e =
+      told-as (λ (y : Arrived). arrivalAnswer (y .answer)) (λ y. y .streams) (λ y. joined (y .session) samples) r _ d x h refl e
 
 -- a call that is not lent the samples keeps them
 pub gives-kept : (a : Answer) (l : Streams) (d : List ℕ) (s : Session) (samples : List Float) (x : Step Session) (y : Step State) → y ≡ keeping samples x

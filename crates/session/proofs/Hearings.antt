@@ -32,8 +32,9 @@ use Rattle.account.specs.declared.sender.Sender.{Sender}
 use Rattle.account.specs.declared.session.Common.{Common}
 use Rattle.account.specs.declared.session.Session.{Session}
 use Rattle.session.specs.Gives.{incoming}
-use Rattle.session.specs.Hears.{reportOf, missingBy, noted, acceptedBy, quieted, Hears}
-use Rattle.session.specs.declared.report.Report.{Report}
+use Rattle.receiving.specs.Hears.{reportOf, missingBy, noted, acceptedBy}
+use Rattle.session.specs.Hears.{quieted, Hears}
+use Rattle.receiving.specs.declared.report.Report.{Report}
 use Rattle.session.specs.declared.hear.Heard.{Heard}
 
 -- the samples of a datagram with a right header fill the lent array

@@ -3,8 +3,6 @@ use Prim.Native.Nat.{ℕ, _-_, _≤_, _<_}
 use mathlib.Core.Path.{_≡_, refl, sym, ap, _∙_}
 use mathlib.Core.Bool.{true, false}
 use mathlib.Core.List.{List, []}
-use lib.ListN.{length}
-use borrow.Author.Tests.{lt-ltb, le-ltb}
 use Rattle.octets.specs.Written.{written}
 use Rattle.octets.proofs.Picks.{pick-t, pick-f}
 use Rattle.stall.specs.Episode.{isDue}
@@ -14,14 +12,13 @@ use Rattle.account.specs.State.{waits, quietSince, replied}
 use Rattle.account.specs.Sending.{duePackets, stopPackets, wrote}
 use Rattle.account.specs.Stream.{streamsAs}
 use Rattle.account.specs.Parts.{with-common, with-closed}
-use Rattle.account.specs.Close.{stop, close}
+use Rattle.account.specs.Close.{stop}
 use Rattle.account.specs.Pass.{stallSoft, stallHard, passed}
 use Rattle.account.specs.declared.session.Common.{Common}
 use Rattle.account.specs.declared.session.Session.{Session}
 use Rattle.account.specs.declared.stream.Streams.{Streams}
 use Rattle.session.specs.Gives.{Gives}
-use Rattle.session.proofs.Givings.{gives-as}
-use Rattle.session.proofs.Tests.{was, due, not-due}
+use Rattle.account.proofs.Tests.{was, due, not-due}
 
 module _ (s : Session) (now : ℕ) (d : List ℕ) where
   pub pass-ready : waits (s .receiver) ≡ true → passed s now d ≡ replied (done ready) [] d [] s
@@ -52,10 +49,9 @@ module _ (s : Session) (now : ℕ) (d : List ℕ) where
 
 -- ---- Close
 
-pub closed-so : (s : Session) (d : List ℕ) (c : Common) (l : Streams) (e : List ℕ) → s .common .closed ≡ false → 2888 ≤ length d
+pub stopped : (s : Session) (d : List ℕ) (c : Common) (l : Streams) (e : List ℕ)
     → (c ≡ stopPackets (s .common) .common) × (l ≡ streamsAs (stopPackets (s .common) .streams)) × (e ≡ written d 0 (stopPackets (s .common) .octets))
-    → Gives (done closed) l e (with-common s (with-closed c true)) (close s d)
-unfolding close stop
-closed-so s d c l e running room t =
-    gives-as (done closed) l e (with-common s (with-closed c true)) (stop s d) (close s d) (pick-f _ _ _ running ∙ pick-f _ _ _ (le-ltb (length d) 2888 room))
-    (record { answers = refl; lists = t .1; writes = t .2; leaves = ap (λ (x : Common). with-common s (with-closed x true)) (t .0) })
+    → Gives (done closed) l e (with-common s (with-closed c true)) (stop s d)
+unfolding stop
+stopped s d c l e t =
+    record { answers = refl; lists = t .1; writes = t .2; leaves = ap (λ (x : Common). with-common s (with-closed x true)) (t .0) }

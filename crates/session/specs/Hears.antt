@@ -1,57 +1,21 @@
--- What hearing a datagram gives, in the parts that the code makes it of. Definitions only.
+-- What hearing a datagram gives, whatever of the call it does not depend on. Definitions only.
 use Prim.Native.Nat.{ℕ}
 use mathlib.Core.Path.{_≡_}
 use mathlib.Core.List.{List}
 use lib.Ieee.{Float}
-use Rattle.double.specs.Stream.{restartMissing}
-use Rattle.wire.specs.Sequence.{after}
-use Rattle.wire.specs.declared.sequence.SeqEvent.{SeqEvent}
-use Rattle.wire.specs.declared.sequence.SeqTracker.{SeqTracker}
 use Rattle.health.specs.declared.InputHealthCounters.{InputHealthCounters}
 use Rattle.account.specs.Answer.{heard, arrivalAnswer}
-use Rattle.account.specs.Rules.{used, outage, missingOf, pendingAfter}
-use Rattle.account.specs.Hearing.{valid, counted}
-use Rattle.account.specs.Parts.{with-tracker, with-health, with-consecutive-malformed}
+use Rattle.account.specs.Parts.{with-health, with-consecutive-malformed}
 use Rattle.account.specs.State.{State, keeping}
 use Rattle.account.specs.Arrival.{told, heardIq, heardStatus}
-use Rattle.account.specs.declared.receiver.Pending.{Pending}
-use Rattle.account.specs.declared.receiver.Receiver.{Receiver}
 use Rattle.account.specs.declared.sender.Sender.{Sender}
 use Rattle.account.specs.declared.session.Common.{Common}
 use Rattle.account.specs.declared.session.Session.{Session}
 use Rattle.account.specs.declared.answer.Arrived.{Arrived}
 use Rattle.session.specs.Gives.{Gives, incoming}
-use Rattle.session.specs.declared.report.Report.{Report}
 use Rattle.session.specs.declared.hear.Heard.{Heard}
 
--- an event that misses so much: the slots and the counters after it
-unfoldable pub reportOf : Float → SeqEvent → ℕ → Pending → InputHealthCounters → Report
-reportOf rate event missing p h = record { missing = missing; pending = pendingAfter rate event missing p; health = counted event h }
-
--- what an event misses
-unfoldable pub missingBy : Float → SeqEvent → Receiver → ℕ → ℕ → ℕ → List ℕ → ℕ
-missingBy rate event r reading later count waiting =
-    missingOf event (restartMissing (outage rate (r .«last_accepted_iq») (r .parked .window) reading later (after count) waiting) rate)
-
--- a receiver that heard a valid datagram, Stale or not
-abbrev pub noted : Receiver → SeqTracker → ℕ → Receiver
-noted r tracker now = with-tracker (valid r now) tracker
-
--- and one that accepted it
-abbrev pub acceptedBy : Receiver → Report → ℕ → Receiver
-acceptedBy r report now =
-    record {
-      tracker = r .tracker;
-      «queue_pos» = 0;
-      reading = r .reading;
-      parked = record { window = used (r .parked .window) (report .missing) };
-      pending = report .pending;
-      «last_valid_iq» = r .«last_valid_iq»;
-      «last_accepted_iq» = now;
-      «read_returned» = r .«read_returned»;
-      stall = r .stall;
-    }
-
+-- valid I/Q zeroes the consecutive malformed count
 abbrev pub quieted : Common → InputHealthCounters → Common
 quieted c h = with-consecutive-malformed (with-health c h) 0
 

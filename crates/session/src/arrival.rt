@@ -12,14 +12,14 @@ use super::malformed::malformed;
 use super::route::Route;
 use super::route::routed;
 use super::state::fell;
-use super::state::no_streams;
 use super::state::not_reading;
-use super::state::waits;
 use super::status::handle_status;
 use account::answer::ArrivalAnswer;
 use account::answer::Arrived;
 use account::sender::Sender;
 use account::session::Session;
+use receiving::queue::waits;
+use sending::send::no_streams;
 
 // The most numbers that may wait.
 const MAX_BUFFERED_DATAGRAMS: usize = 8192;
@@ -27,7 +27,8 @@ const MAX_BUFFERED_DATAGRAMS: usize = 8192;
 // A step's packet.
 const ARRIVAL_LEN: usize = 1444;
 
-fn refused(answer: ArrivalAnswer, session: Session) -> Arrived
+// An answer that wrote no packet.
+pub(crate) fn told(answer: ArrivalAnswer, session: Session) -> Arrived
     ensures { λ r. ⌜ r ≡ record { answer = answer; streams = streamsAs []; session = session } ⌝ }
 {
     Arrived {
@@ -58,21 +59,16 @@ fn arrived(
             let heard = handle_iq(s, samples, reading, later, count, datagram, waiting);
             let event = heard.event;
             let session = heard.session;
-            Arrived {
-                answer: ArrivalAnswer::Iq {
+            told(
+                ArrivalAnswer::Iq {
                     event,
                     missing: heard.missing,
                 },
-                streams: no_streams(),
                 session,
-            }
+            )
         }
         Route::Status => handle_status(s, reading, later, datagram, packets),
-        Route::Ignored => Arrived {
-            answer: ArrivalAnswer::Ignored,
-            streams: no_streams(),
-            session: s,
-        },
+        Route::Ignored => told(ArrivalAnswer::Ignored, s),
         Route::Malformed => malformed(s),
     }
 }
@@ -90,23 +86,23 @@ pub fn arrival(
     ensures { λ r. ⌜ Gives (arrivalAnswer (r .answer)) (r .streams) (now (packets .exit)) (joined (r .session) (now (samples .exit))) (Arrival.arrival (joined s (now (samples .entry))) (incoming reading later from (now (datagram .entry)) (now (waiting .entry))) (now (packets .entry))) ⌝ }
 {
     if not_reading(s) {
-        return refused(ArrivalAnswer::NotNow, s);
+        return told(ArrivalAnswer::NotNow, s);
     }
     if fell(s, reading) {
-        return refused(ArrivalAnswer::ReadingFell, s);
+        return told(ArrivalAnswer::ReadingFell, s);
     }
     let receiver = s.receiver;
     if waits(receiver) {
-        return refused(ArrivalAnswer::SamplesWait, s);
+        return told(ArrivalAnswer::SamplesWait, s);
     }
     if later < reading {
-        return refused(ArrivalAnswer::LaterFell, s);
+        return told(ArrivalAnswer::LaterFell, s);
     }
     if waiting.len() > MAX_BUFFERED_DATAGRAMS {
-        return refused(ArrivalAnswer::TooManyWaiting, s);
+        return told(ArrivalAnswer::TooManyWaiting, s);
     }
     if packets.len() < ARRIVAL_LEN {
-        return refused(ArrivalAnswer::NoRoom, s);
+        return told(ArrivalAnswer::NoRoom, s);
     }
     let mut next = s;
     next.common.last_reading = later;

@@ -1,47 +1,37 @@
 // Close: two high priority packets with run off.
+ghost use Prim.Native.Nat.{_≤_};
+ghost use mathlib.Core.Path.{_≡_};
+ghost use mathlib.Core.List.{[]};
 ghost use lib.ListN.{length};
 ghost use Rattle.account.specs.Answer.{closeAnswer};
 ghost use Rattle.account.specs.Close as Close;
-ghost use Rattle.account.specs.Sending as Sending;
+ghost use Rattle.account.specs.Stream.{streamsAs};
 ghost use Rattle.session.specs.Gives.{Gives};
-ghost use Rattle.session.specs.Progress.{Sends, HasRoom};
-use super::send::Progress;
-use super::send::send;
-use super::send::start;
-use super::state::no_streams;
 use account::answer::CloseAnswer;
 use account::answer::Ended;
 use account::session::Session;
-use account::stream::Stream;
+use sending::send::no_streams;
+use sending::send::send_stop;
+use sending::send::start;
 
 // Two high priority packets.
 const CLOSE_LEN: usize = 2888;
 
-fn send_stop(p: Progress, packets: &mut [u8]) -> Progress
-    requires { ⌜ HasRoom 2888 2 p (length (now packets)) ⌝ }
-    ensures { λ r. ⌜ Sends (Sending.stopPackets (p .common)) p (now (packets .entry)) r (now (packets .exit)) ⌝ }
+fn told(answer: CloseAnswer, session: Session) -> Ended
+    ensures { λ r. ⌜ r ≡ record { answer = answer; streams = streamsAs []; session = session } ⌝ }
 {
-    let first = send(p, Stream::HighPriority, false, packets);
-    send(first, Stream::HighPriority, false, packets)
+    Ended {
+        answer,
+        streams: no_streams(),
+        session,
+    }
 }
 
-pub fn close(s: Session, packets: &mut [u8]) -> Ended
-    ensures { λ r. ⌜ Gives (closeAnswer (r .answer)) (r .streams) (now (packets .exit)) (r .session) (Close.close s (now (packets .entry))) ⌝ }
+// The packets are written, and the session is closed; the queue, the slots and the stall flag stay, and no clock moves.
+fn stop(s: Session, packets: &mut [u8]) -> Ended
+    requires { ⌜ 2888 ≤ length (now packets) ⌝ }
+    ensures { λ r. ⌜ Gives (closeAnswer (r .answer)) (r .streams) (now (packets .exit)) (r .session) (Close.stop s (now (packets .entry))) ⌝ }
 {
-    if s.common.closed {
-        return Ended {
-            answer: CloseAnswer::NotNow,
-            streams: no_streams(),
-            session: s,
-        };
-    }
-    if packets.len() < CLOSE_LEN {
-        return Ended {
-            answer: CloseAnswer::NoRoom,
-            streams: no_streams(),
-            session: s,
-        };
-    }
     let common = s.common;
     let sent = send_stop(start(common), packets);
     let mut after = sent.common;
@@ -54,4 +44,16 @@ pub fn close(s: Session, packets: &mut [u8]) -> Ended
         streams,
         session: next,
     }
+}
+
+pub fn close(s: Session, packets: &mut [u8]) -> Ended
+    ensures { λ r. ⌜ Gives (closeAnswer (r .answer)) (r .streams) (now (packets .exit)) (r .session) (Close.close s (now (packets .entry))) ⌝ }
+{
+    if s.common.closed {
+        return told(CloseAnswer::NotNow, s);
+    }
+    if packets.len() < CLOSE_LEN {
+        return told(CloseAnswer::NoRoom, s);
+    }
+    stop(s, packets)
 }

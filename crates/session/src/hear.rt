@@ -6,62 +6,23 @@ ghost use lib.ListN.{length};
 ghost use Rattle.wire.specs.Answer.{gives};
 ghost use Rattle.wire.specs.Iq.{headerTold};
 ghost use Rattle.session.specs.Gives.{joined};
-ghost use Rattle.session.specs.Hears.{Hears, noted, acceptedBy, quieted};
-use super::elapsed::capped;
-use super::elapsed::plausible_lost_datagrams;
-use super::elapsed::unaccounted;
-use super::report::Report;
-use super::report::report_event;
-use super::window::used;
-use account::receiver::Anchor;
-use account::receiver::Parked;
-use account::receiver::Reading;
-use account::receiver::Receiver;
+ghost use Rattle.session.specs.Hears.{Hears, quieted};
 use account::session::Common;
 use account::session::Session;
 use health::InputHealthCounters;
+use receiving::elapsed::capped;
+use receiving::elapsed::plausible_lost_datagrams;
+use receiving::elapsed::unaccounted;
+use receiving::hear::accept;
+use receiving::hear::note_valid;
+use receiving::report::report_event;
 use wire::iq::parse_iq_datagram;
 use wire::sequence::SeqEvent;
-use wire::sequence::SeqTracker;
 
 pub(crate) struct Heard {
     pub(crate) event: SeqEvent,
     pub(crate) missing: u64,
     pub(crate) session: Session,
-}
-
-// Stale too: the tracker moves, the wait anchor is emptied, and the time of the last valid I/Q is now. The read's own anchor stays.
-fn note_valid(r: Receiver, tracker: SeqTracker, now: u64) -> Receiver
-    ensures { λ q. ⌜ q ≡ noted r tracker now ⌝ }
-{
-    let reading = r.reading;
-    let entered = reading.entered;
-    let heard = Reading {
-        wait_entered: Anchor::Unset,
-        entered,
-    };
-    let mut next = r;
-    next.tracker = tracker;
-    next.reading = heard;
-    next.last_valid_iq = now;
-    next
-}
-
-// Any event but Stale: its samples wait, and what it misses is told.
-fn accept(r: Receiver, report: Report, now: u64) -> Receiver
-    ensures { λ q. ⌜ q ≡ acceptedBy r report now ⌝ }
-{
-    let parked = r.parked;
-    let window = parked.window;
-    let after = used(window, report.missing);
-    let parked_after = Parked { window: after };
-    let pending = report.pending;
-    let mut next = r;
-    next.queue_pos = 0;
-    next.parked = parked_after;
-    next.pending = pending;
-    next.last_accepted_iq = now;
-    next
 }
 
 // Valid I/Q zeroes the consecutive malformed count.

@@ -3,13 +3,16 @@ ghost use Prim.Native.Nat.{ℕ, _+_, min};
 ghost use mathlib.Core.Path.{_≡_};
 ghost use mathlib.Core.List.{List};
 ghost use Rattle.account.specs.Answer.{arrivalAnswer};
+ghost use Rattle.health.specs.Counters.{countMalformed};
 ghost use Rattle.account.specs.Arrival.{heardMalformed};
+ghost use Rattle.account.specs.Parts.{with-health, with-consecutive-malformed};
 ghost use Rattle.session.specs.Gives.{Gives};
-use super::state::no_streams;
-use super::state::shut;
+use super::arrival::told;
 use account::answer::ArrivalAnswer;
 use account::answer::Arrived;
+use account::session::Common;
 use account::session::Session;
+use receiving::read::shut;
 
 // The largest u32.
 const MOST: u32 = 0xffff_ffff;
@@ -21,31 +24,31 @@ fn one_more(n: u32) -> u32
     if n < MOST { n + 1 } else { MOST }
 }
 
+// One more malformed.
+fn note_malformed(c: Common) -> Common
+    ensures { λ r. ⌜ r ≡ with-health (with-consecutive-malformed c (min (c .«consecutive_malformed» + 1) 4294967295)) (countMalformed (c .health)) ⌝ }
+{
+    let health = c.health;
+    let counted = health.record_malformed();
+    let mut next = c;
+    next.health = counted;
+    next.consecutive_malformed = one_more(c.consecutive_malformed);
+    next
+}
+
+// With the consecutive count at or past the limit the read closes.
 pub(crate) fn malformed(s: Session) -> Arrived
     ensures { λ r. ⌜ ((d : List ℕ) → Gives (arrivalAnswer (r .answer)) (r .streams) d (r .session) (heardMalformed s d)) ⌝ }
 {
-    let health = s.common.health;
-    let counted = health.record_malformed();
-    let consecutive = one_more(s.common.consecutive_malformed);
-    let limit = s.common.settings.max_consecutive_malformed;
-    let mut common = s.common;
-    common.health = counted;
-    common.consecutive_malformed = consecutive;
+    let common = s.common;
+    let counted = note_malformed(common);
     let mut next = s;
-    next.common = common;
-    if consecutive >= limit {
+    next.common = counted;
+    if counted.consecutive_malformed >= common.settings.max_consecutive_malformed {
         let receiver = s.receiver;
         let closed = shut(receiver);
         next.receiver = closed;
-        return Arrived {
-            answer: ArrivalAnswer::MalformedLimit,
-            streams: no_streams(),
-            session: next,
-        };
+        return told(ArrivalAnswer::MalformedLimit, next);
     }
-    Arrived {
-        answer: ArrivalAnswer::Malformed,
-        streams: no_streams(),
-        session: next,
-    }
+    told(ArrivalAnswer::Malformed, next)
 }

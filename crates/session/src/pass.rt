@@ -3,28 +3,32 @@ ghost use Prim.Native.Nat.{_≤_};
 ghost use mathlib.Core.Path.{_≡_};
 ghost use mathlib.Core.List.{[]};
 ghost use lib.ListN.{length};
-ghost use Rattle.account.specs.Answer.{passAnswer};
+ghost use Rattle.account.specs.Answer.{passAnswer, done};
+ghost use Rattle.account.specs.Answer as Answer;
+ghost use Rattle.account.specs.Parts.{with-receiver};
 ghost use Rattle.account.specs.Pass as Pass;
+ghost use Rattle.account.specs.Sending.{duePackets, wrote};
 ghost use Rattle.account.specs.Stream.{streamsAs};
-ghost use Rattle.account.specs.Parts.{with-receiver, with-stall};
-ghost use Rattle.stall.specs.Episode.{reported};
 ghost use Rattle.session.specs.Gives.{Gives};
-use super::keepalive::send_due;
-use super::send::start;
 use super::state::fell;
-use super::state::no_streams;
 use super::state::not_reading;
-use super::state::quiet_since;
-use super::state::shut;
-use super::state::waits;
 use account::answer::PassAnswer;
 use account::answer::Passed;
+use account::receiver::Receiver;
 use account::session::Session;
 use double::time::since;
+use receiving::queue::waits;
+use receiving::read::quiet_since;
+use receiving::read::shut;
+use receiving::read::stalled;
+use sending::keepalive::send_due;
+use sending::send::no_streams;
+use sending::send::start;
 
 // The four keepalives and a step's packet.
 const PASS_LEN: usize = 4452;
 
+// An answer that wrote no packet.
 fn told(answer: PassAnswer, session: Session) -> Passed
     ensures { λ r. ⌜ r ≡ record { answer = answer; streams = streamsAs []; session = session } ⌝ }
 {
@@ -35,18 +39,31 @@ fn told(answer: PassAnswer, session: Session) -> Passed
     }
 }
 
-// The stall is reported and the read closes; the Take time stays.
-fn stalled_softly(s: Session) -> Session
-    ensures { λ r. ⌜ r ≡ with-receiver s (with-stall (Pass.shut (s .receiver)) (reported (s .receiver .stall))) ⌝ }
+// The read closes, and this is its receiver then.
+fn read_closed(answer: PassAnswer, s: Session, receiver: Receiver) -> Passed
+    ensures { λ r. ⌜ r ≡ record { answer = answer; streams = streamsAs []; session = with-receiver s receiver } ⌝ }
 {
-    let receiver = s.receiver;
-    let mut quiet = shut(receiver);
-    let stall = quiet.stall;
-    let reported = stall.report();
-    quiet.stall = reported;
     let mut next = s;
-    next.receiver = quiet;
-    next
+    next.receiver = receiver;
+    told(answer, next)
+}
+
+// What is due is written.
+fn sent(s: Session, reading: u64, packets: &mut [u8]) -> Passed
+    requires { ⌜ 4452 ≤ length (now packets) ⌝ }
+    ensures { λ r. ⌜ Gives (passAnswer (r .answer)) (r .streams) (now (packets .exit)) (r .session) (wrote (done Answer.sent) s (now (packets .entry)) (duePackets reading (s .common))) ⌝ }
+{
+    let common = s.common;
+    let sent = send_due(start(common), reading, packets);
+    let after = sent.common;
+    let streams = sent.streams;
+    let mut next = s;
+    next.common = after;
+    Passed {
+        answer: PassAnswer::Sent,
+        streams,
+        session: next,
+    }
 }
 
 // After every refusal, of a session whose last reading is this one.
@@ -62,25 +79,12 @@ fn passed(s: Session, reading: u64, packets: &mut [u8]) -> Passed
     let stall = receiver.stall;
     let stall_after = s.common.settings.stall_after;
     if stall.due(last, reading, stall_after) {
-        return told(PassAnswer::SoftStall, stalled_softly(s));
+        return read_closed(PassAnswer::SoftStall, s, stalled(receiver));
     }
     if since(reading, last) >= stall_after {
-        let mut next = s;
-        let closed = shut(receiver);
-        next.receiver = closed;
-        return told(PassAnswer::HardStall, next);
+        return read_closed(PassAnswer::HardStall, s, shut(receiver));
     }
-    let common = s.common;
-    let sent = send_due(start(common), reading, packets);
-    let after = sent.common;
-    let streams = sent.streams;
-    let mut next = s;
-    next.common = after;
-    Passed {
-        answer: PassAnswer::Sent,
-        streams,
-        session: next,
-    }
+    sent(s, reading, packets)
 }
 
 pub fn pass(s: Session, reading: u64, packets: &mut [u8]) -> Passed
@@ -92,10 +96,10 @@ pub fn pass(s: Session, reading: u64, packets: &mut [u8]) -> Passed
     if fell(s, reading) {
         return told(PassAnswer::ReadingFell, s);
     }
+    let mut next = s;
+    next.common.last_reading = reading;
     if packets.len() < PASS_LEN {
         return told(PassAnswer::NoRoom, s);
     }
-    let mut next = s;
-    next.common.last_reading = reading;
     passed(next, reading, packets)
 }

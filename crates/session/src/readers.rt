@@ -3,10 +3,10 @@ ghost use mathlib.Core.Path.{_≡_};
 ghost use Rattle.account.specs.Sending as Sending;
 ghost use Rattle.account.specs.State as State;
 ghost use Rattle.health.specs.Counters.{lossTotal};
-use super::send::level;
-use super::state::left;
 use account::session::Session;
 use health::InputHealthCounters;
+use receiving::queue::left;
+use sending::send::level;
 
 // Datagrams lost, gaps and malformed datagrams, each modulo 2^64.
 pub fn gap_stats(s: Session) -> InputHealthCounters
@@ -39,9 +39,8 @@ pub fn center_freq_hz(s: Session) -> f64
 pub fn attenuation_db(s: Session) -> u8
     ensures { λ r. ⌜ r ≡ Sending.level (s .common .attenuator .attenuation) ⌝ }
 {
-    let attenuator = s.common.attenuator;
-    let attenuation = attenuator.attenuation;
-    level(attenuation)
+    let common = s.common;
+    level(common)
 }
 
 // How many samples wait, as I, Q pairs.

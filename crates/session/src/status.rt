@@ -2,18 +2,40 @@
 ghost use Prim.Native.Nat.{ℕ, _≤_};
 ghost use mathlib.Core.List.{List};
 ghost use lib.ListN.{length};
-ghost use Rattle.account.specs.Answer.{arrivalAnswer};
+ghost use Rattle.account.specs.Answer.{arrivalAnswer, done, status};
+ghost use Rattle.account.specs.Sending.{wrote};
+ghost use Rattle.account.specs.Sending as Sending;
+ghost use Rattle.session.specs.Gives.{Gives};
 ghost use Rattle.session.specs.Hears.{HearsStatus};
-use super::keepalive::apply_step;
-use super::send::start;
-use super::state::no_streams;
+use super::arrival::told;
 use account::answer::ArrivalAnswer;
 use account::answer::Arrived;
 use account::session::Attenuation;
 use account::session::Session;
+use attenuator::Stepped;
+use sending::keepalive::apply_step;
+use sending::send::start;
 use wire::status::OverloadBits;
 use wire::status::adc_overload_bits;
 use wire::status::adc0_overload;
+
+// What the controller made of an overload bit; a step up writes its packet.
+fn stepped(s: Session, made: Stepped, later: u64, packets: &mut [u8]) -> Arrived
+    requires { ⌜ 1444 ≤ length (now packets) ⌝ }
+    ensures { λ r. ⌜ Gives (arrivalAnswer (r .answer)) (r .streams) (now (packets .exit)) (r .session) (wrote (done status) s (now (packets .entry)) (Sending.stepped later made (s .common))) ⌝ }
+{
+    let common = s.common;
+    let sent = apply_step(start(common), made, later, packets);
+    let after = sent.common;
+    let streams = sent.streams;
+    let mut next = s;
+    next.common = after;
+    Arrived {
+        answer: ArrivalAnswer::Status,
+        streams,
+        session: next,
+    }
+}
 
 // Without automatic attenuation, or of another length, it is ignored. The controller takes the arrival's reading, a step's
 // packet the later one.
@@ -27,33 +49,15 @@ pub(crate) fn handle_status(
     requires { ⌜ 1444 ≤ length (now packets) ⌝ }
     ensures { λ r. ⌜ HearsStatus s reading later (now (datagram .entry)) (now (packets .entry)) r (now (packets .exit)) ⌝ }
 {
-    let common = s.common;
-    let attenuator = common.attenuator;
+    let attenuator = s.common.attenuator;
     let attenuation = attenuator.attenuation;
     let Attenuation::On(controller) = attenuation else {
-        return Arrived {
-            answer: ArrivalAnswer::Ignored,
-            streams: no_streams(),
-            session: s,
-        };
+        return told(ArrivalAnswer::Ignored, s);
     };
     let overload = adc_overload_bits(datagram);
     let OverloadBits::Bits(bits) = overload else {
-        return Arrived {
-            answer: ArrivalAnswer::Ignored,
-            streams: no_streams(),
-            session: s,
-        };
+        return told(ArrivalAnswer::Ignored, s);
     };
-    let stepped = controller.observe(adc0_overload(bits), reading);
-    let sent = apply_step(start(common), stepped, later, packets);
-    let after = sent.common;
-    let streams = sent.streams;
-    let mut next = s;
-    next.common = after;
-    Arrived {
-        answer: ArrivalAnswer::Status,
-        streams,
-        session: next,
-    }
+    let made = controller.observe(adc0_overload(bits), reading);
+    stepped(s, made, later, packets)
 }

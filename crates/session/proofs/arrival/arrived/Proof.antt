@@ -1,14 +1,12 @@
 -- `session::arrival::arrived` meets its contract: by what the arrival is. Assumes nothing.
-use borrow.Author.Needs.{needs}
-use mathlib.Core.Path.{_≡_, sym, ap, _∙_}
-use Rattle.account.specs.Answer as Answer
+use mathlib.Core.Path.{sym, ap, _∙_}
 use Rattle.account.specs.Arrival as Arrival
-use Rattle.account.specs.Routing as Routing
+use Rattle.account.specs.declared.answer.ArrivalAnswer.the-variants.{Iq, Ignored}
 use Rattle.session.specs.Gives.{joined, incoming}
 use Rattle.session.specs.Route.{routeOf}
-use Rattle.session.specs.declared.route.Route.{Route}
 use Rattle.session.proofs.Routes.{right-header}
-use Rattle.session.proofs.Givings.{gives-told, gives-kept}
+use Rattle.session.proofs.Givings.{arrival-told, gives-kept}
+use borrow.Author.Needs.{needs}
 use Rattle.session.proofs.arrival.arrived.Statement.{statement}
 use Rattle.session.proofs.arrival.arrived.Tie as tie
 
@@ -25,8 +23,8 @@ handle-iq-requires c κs = let a = c .before .before .before .before .before .be
   c .before .before .before .before .before .before .before .before .before .pre .0,
 )
 
-no-streams-requires : tie.Need-no-streams-requires
-no-streams-requires c κs = search needs
+told-requires : tie.Need-told-requires
+told-requires c κs = search needs
 
 enum-told : tie.Need-enum-told
 enum-told c = search needs
@@ -37,8 +35,8 @@ handle-status-requires c κs = search needs
 enum-told-2 : tie.Need-enum-told-2
 enum-told-2 c = search needs
 
-no-streams-requires-2 : tie.Need-no-streams-requires-2
-no-streams-requires-2 c κs = search needs
+told-requires-2 : tie.Need-told-requires-2
+told-requires-2 c κs = search needs
 
 enum-told-3 : tie.Need-enum-told-3
 enum-told-3 c = search needs
@@ -49,9 +47,8 @@ malformed-requires c κs = search needs
 returns : tie.Need-returns
 unfolding Arrival.arrived
 returns c = let a = c .before .before .before .before .before .before .before .before .before .before .before .before .args in
-    gives-told _ _ _ _ _ (c .no-streams .ensures)
-    (ap (Arrival.arrived (joined (a .s) (a .samples .now)) (incoming (a .reading) (a .later) (a .from) (a .datagram .now) (a .waiting .now)) (a .packets .now))
-    (sym (c .before .before .before .before .before .before .before .routed .ensures) ∙ ap routeOf (c .before .before .before .before .before .kind .given .1))
+    arrival-told _ (a .packets .now) _ _ (Iq _ _) _ (c .told .ensures)
+    (ap (Arrival.arrived (joined (a .s) (a .samples .now)) (incoming (a .reading) (a .later) (a .from) (a .datagram .now) (a .waiting .now)) (a .packets .now)) (sym (c .before .before .before .before .before .before .before .routed .ensures) ∙ ap routeOf (c .before .before .before .before .before .kind .given .1))
     ∙ sym (c .before .before .handle-iq .ensures .hears (a .from) (a .packets .now)))
 
 same-length : tie.Need-same-length
@@ -61,23 +58,20 @@ returns-2 : tie.Need-returns-2
 unfolding Arrival.arrived
 returns-2 c = let a = c .before .before .before .before .before .before .before .before .before .before .before .args in
     gives-kept _ _ _ _ (a .samples .now) _ _
-    (ap (Arrival.arrived (joined (a .s) (a .samples .now)) (incoming (a .reading) (a .later) (a .from) (a .datagram .now) (a .waiting .now)) (a .packets .now))
-    (sym (c .before .before .before .before .before .before .routed .ensures) ∙ ap routeOf (c .before .before .before .before .enum-told .given .1)))
+    (ap (Arrival.arrived (joined (a .s) (a .samples .now)) (incoming (a .reading) (a .later) (a .from) (a .datagram .now) (a .waiting .now)) (a .packets .now)) (sym (c .before .before .before .before .before .before .routed .ensures) ∙ ap routeOf (c .before .before .before .before .enum-told .given .1)))
     (c .before .before .handle-status .ensures .hears (a .from) (a .waiting .now))
 
 returns-3 : tie.Need-returns-3
 unfolding Arrival.arrived
 returns-3 c = let a = c .before .before .before .before .before .before .before .before .args in
-    gives-told (Answer.done Answer.ignored) _ _ _ _ (c .no-streams2 .ensures)
-    (ap (Arrival.arrived (joined (a .s) (a .samples .now)) (incoming (a .reading) (a .later) (a .from) (a .datagram .now) (a .waiting .now)) (a .packets .now))
-    (sym (c .before .before .before .routed .ensures) ∙ ap routeOf (c .before .enum-told2 .given .1)))
+    arrival-told (a .s) (a .packets .now) (a .samples .now) _ Ignored _ (c .told2 .ensures)
+    (ap (Arrival.arrived (joined (a .s) (a .samples .now)) (incoming (a .reading) (a .later) (a .from) (a .datagram .now) (a .waiting .now)) (a .packets .now)) (sym (c .before .before .before .routed .ensures) ∙ ap routeOf (c .before .enum-told2 .given .1)))
 
 returns-4 : tie.Need-returns-4
 unfolding Arrival.arrived
 returns-4 c = let a = c .before .before .before .before .before .before .before .before .args in
     gives-kept _ _ _ _ (a .samples .now) _ _
-    (ap (Arrival.arrived (joined (a .s) (a .samples .now)) (incoming (a .reading) (a .later) (a .from) (a .datagram .now) (a .waiting .now)) (a .packets .now))
-    (sym (c .before .before .before .routed .ensures) ∙ ap routeOf (c .before .enum-told3 .given .1)))
+    (ap (Arrival.arrived (joined (a .s) (a .samples .now)) (incoming (a .reading) (a .later) (a .from) (a .datagram .now) (a .waiting .now)) (a .packets .now)) (sym (c .before .before .before .routed .ensures) ∙ ap routeOf (c .before .enum-told3 .given .1)))
     (c .malformed .ensures (a .packets .now))
 
 pub arrived-spec : {M : Type 1} → statement M
@@ -87,11 +81,11 @@ arrived-spec =
     routed-requires
     enum-known-kind
     handle-iq-requires
-    no-streams-requires
+    told-requires
     enum-told
     handle-status-requires
     enum-told-2
-    no-streams-requires-2
+    told-requires-2
     enum-told-3
     malformed-requires
     returns

@@ -2,7 +2,7 @@
 use mathlib.Core.Path.{sym, ap, _∙_}
 use mathlib.Core.List.{[]}
 use Rattle.octets.proofs.Picks.{pick-t, pick-f}
-use Rattle.session.proofs.Tests.{was}
+use Rattle.account.proofs.Tests.{was}
 use Rattle.account.specs.Answer.{done}
 use Rattle.account.specs.Answer as Answer
 use Rattle.account.specs.State.{replied}

@@ -2,7 +2,7 @@
 use mathlib.Core.Path.{_≡_, sym, ap, _∙_}
 use mathlib.Core.Bool.{true}
 use mathlib.Core.List.{[], _∷_}
-use Rattle.session.proofs.Tests.{was}
+use Rattle.account.proofs.Tests.{was}
 use borrow.Author.Tests.{not-true, not-false}
 use Rattle.wire.specs.Answer.{gives}
 use Rattle.wire.specs.Rate.{isRate, khzOf, rateAnswer}

@@ -1,5 +1,5 @@
 -- `session::settings::whole_centre` meets its contract. Assumes nothing.
-use Rattle.session.proofs.Tests.{was}
+use Rattle.account.proofs.Tests.{was}
 use borrow.Author.Tests.{not-true, not-false}
 use lib.Ieee.{ofBits}
 use Rattle.session.proofs.Settled.{not-finite, above-zero, not-above}

@@ -6,7 +6,7 @@ use lib.ListN.{length}
 use native.Mathlib.Omega.{arith}
 use borrow.Author.Tests.{lt-ltb, le-ltb, not-true, not-false}
 use Rattle.octets.proofs.Picks.{pick-t, pick-f}
-use Rattle.session.proofs.Tests.{was}
+use Rattle.account.proofs.Tests.{was}
 use Rattle.account.specs.State as State
 use Rattle.account.specs.Take as Take
 use Rattle.session.specs.Gives.{joined}

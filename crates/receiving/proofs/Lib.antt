@@ -1,0 +1,6 @@
+-- The laws of a receiver: a file imports only what stands above it here.
+pub mod Events
+pub mod Times
+pub mod Walks
+pub mod Reports
+pub mod Receivers

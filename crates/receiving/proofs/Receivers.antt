@@ -1,0 +1,34 @@
+-- A receiver whose read closes: after a Take, and at a soft stall. Assumes nothing.
+use Prim.Native.Nat.{ℕ, _+_}
+use mathlib.Core.Path.{_≡_, refl, ap, _∙_}
+use Rattle.stall.specs.Episode.{delivered, reported}
+use Rattle.stall.specs.declared.StallEpisode.{StallEpisode}
+use Rattle.account.specs.Pass.{shut}
+use Rattle.account.specs.Take.{handed}
+use Rattle.account.specs.Parts.{with-stall}
+use Rattle.account.specs.declared.receiver.Receiver.{Receiver}
+
+-- n pairs more are handed out, of a receiver whose read is closed
+abbrev takenFrom : Receiver → ℕ → ℕ → ℕ → StallEpisode → Receiver
+takenFrom q at now n stall =
+    record {
+      tracker = q .tracker;
+      «queue_pos» = at + n;
+      reading = q .reading;
+      parked = q .parked;
+      pending = q .pending;
+      «last_valid_iq» = q .«last_valid_iq»;
+      «last_accepted_iq» = q .«last_accepted_iq»;
+      «read_returned» = now;
+      stall = stall;
+    }
+
+pub handed-so : (r : Receiver) (now n : ℕ) (q : Receiver) (stall : StallEpisode) → q ≡ shut r → stall ≡ delivered (q .stall)
+    → takenFrom q (r .«queue_pos») now n stall ≡ handed r now n
+unfolding handed
+handed-so r now n q stall e d =
+    ap (λ (x : StallEpisode). takenFrom q (r .«queue_pos») now n x) d
+    ∙ ap (λ (x : Receiver). takenFrom x (r .«queue_pos») now n (delivered (x .stall))) e
+
+pub stalled-so : (r q : Receiver) (stall : StallEpisode) → q ≡ shut r → stall ≡ reported (q .stall) → with-stall q stall ≡ with-stall (shut r) (reported (r .stall))
+stalled-so r q stall e d = ap (with-stall q) d ∙ ap (λ (x : Receiver). with-stall x (reported (x .stall))) e

@@ -1,0 +1,93 @@
+// The read and its anchors: when it opened, since when it is quiet, and that it closes.
+ghost use mathlib.Core.Path.{_≡_};
+ghost use Rattle.stall.specs.Episode.{reported};
+ghost use Rattle.account.specs.Begin as Begin;
+ghost use Rattle.account.specs.Parts.{with-stall};
+ghost use Rattle.account.specs.Pass as Pass;
+ghost use Rattle.account.specs.State as State;
+use super::window::begun;
+use account::receiver::Anchor;
+use account::receiver::Parked;
+use account::receiver::Reading;
+use account::receiver::Receiver;
+
+pub fn is_set(anchor: Anchor) -> bool
+    ensures { λ r. ⌜ r ≡ State.isSet anchor ⌝ }
+{
+    match anchor {
+        Anchor::Unset => false,
+        Anchor::At(_) => true,
+    }
+}
+
+// The later of last valid I/Q and this read's anchor.
+pub fn quiet_since(r: Receiver) -> u64
+    ensures { λ t. ⌜ t ≡ State.quietSince r ⌝ }
+{
+    let reading = r.reading;
+    let entered = reading.entered;
+    let Anchor::At(t) = entered else {
+        return r.last_valid_iq;
+    };
+    if r.last_valid_iq < t {
+        return t;
+    }
+    r.last_valid_iq
+}
+
+// The read closes; its wait anchor stays.
+pub fn shut(r: Receiver) -> Receiver
+    ensures { λ q. ⌜ q ≡ Pass.shut r ⌝ }
+{
+    let reading = r.reading;
+    let wait_entered = reading.wait_entered;
+    let closed = Reading {
+        wait_entered,
+        entered: Anchor::Unset,
+    };
+    let mut next = r;
+    next.reading = closed;
+    next
+}
+
+// A soft stall is reported and the read closes; the Take time stays.
+pub fn stalled(r: Receiver) -> Receiver
+    ensures { λ q. ⌜ q ≡ with-stall (Pass.shut r) (reported (r .stall)) ⌝ }
+{
+    let mut next = shut(r);
+    let stall = next.stall;
+    let reported = stall.report();
+    next.stall = reported;
+    next
+}
+
+// The wait anchor is set if empty.
+fn or_at(anchor: Anchor, now: u64) -> Anchor
+    ensures { λ r. ⌜ r ≡ Begin.orAt anchor now ⌝ }
+{
+    match anchor {
+        Anchor::Unset => Anchor::At(now),
+        Anchor::At(t) => Anchor::At(t),
+    }
+}
+
+// A read opens: the window after a pause, the wait anchor, and the read's own copy of it.
+pub fn begun_by(r: Receiver, size: u64, now: u64) -> Receiver
+    ensures { λ q. ⌜ q ≡ Begin.begunBy size r now ⌝ }
+{
+    let before = r.reading;
+    let wait_entered = before.wait_entered;
+    let anchor = or_at(wait_entered, now);
+    let paused = r.parked;
+    let window = paused.window;
+    let opened = begun(window, size, r.read_returned, now);
+    let reading = Reading {
+        wait_entered: anchor,
+        entered: anchor,
+    };
+    let parked = Parked { window: opened };
+    let mut next = r;
+    next.reading = reading;
+    next.parked = parked;
+    next
+}

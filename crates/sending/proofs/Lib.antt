@@ -1,0 +1,2 @@
+-- The laws of sending, for its own proofs and for the session's.
+pub mod Progresses

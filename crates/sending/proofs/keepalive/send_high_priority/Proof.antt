@@ -1,0 +1,19 @@
+-- `sending::keepalive::send_high_priority` meets its contract. Assumes nothing.
+use Rattle.account.specs.Sending as Sending
+use Rattle.sending.proofs.Progresses.{sends-from}
+use borrow.Author.Needs.{needs}
+use Rattle.sending.proofs.keepalive.send_high_priority.Statement.{statement}
+use Rattle.sending.proofs.keepalive.send_high_priority.Tie as tie
+
+send-requires : tie.Need-send-requires
+send-requires c κs = search needs
+
+same-length : tie.Need-same-length
+same-length c = search needs
+
+returns : tie.Need-returns
+unfolding Sending.sendHigh
+returns c = let a = c .before .before .before .before .before .before .args in sends-from (Sending.sendHigh (a .reading) (a .p .common)) (a .p) _ _ _ _ (c .before .before .send .ensures)
+
+pub send-high-priority-spec : {M : Type 1} → statement M
+send-high-priority-spec = tie.close (tie.spec send-requires same-length returns)
