@@ -17,7 +17,7 @@ const OVERLOAD: u8 = 1;
 
 const TICK: u8 = 2;
 
-fn reading(p: &[u8], at: usize) -> u64
+pub(crate) fn reading(p: &[u8], at: usize) -> u64
     requires { ⌜ at + 8 ≤ length (now p) ⌝ }
 {
     let high = octets::get_u32(p, at) as u64;
