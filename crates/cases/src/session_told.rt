@@ -4,6 +4,7 @@ ghost use lib.ListN.{length};
 use super::packet_cases::bits_of;
 use account::answer::BeginAnswer;
 use account::answer::CloseAnswer;
+use account::answer::Drained;
 use account::answer::PassAnswer;
 use account::answer::TakeAnswer;
 use account::receiver::Slot;
@@ -238,8 +239,7 @@ fn held(slot: Slot) -> u64 {
     if let Slot::Holds(n) = slot { n } else { 0 }
 }
 
-pub(crate) fn missing_told(s: Session) -> Told {
-    let r = take_missing_samples(s);
+fn drained(r: Drained) -> Told {
     let slot = r.slot;
     let session = r.session;
     Told {
@@ -250,16 +250,12 @@ pub(crate) fn missing_told(s: Session) -> Told {
     }
 }
 
+pub(crate) fn missing_told(s: Session) -> Told {
+    drained(take_missing_samples(s))
+}
+
 pub(crate) fn discontinuity_told(s: Session) -> Told {
-    let r = take_discontinuity(s);
-    let slot = r.slot;
-    let session = r.session;
-    Told {
-        word: of_slot(slot),
-        value: held(slot),
-        digest: 0,
-        session,
-    }
+    drained(take_discontinuity(s))
 }
 
 pub(crate) fn stalled_told(s: Session) -> Told {

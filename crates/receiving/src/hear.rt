@@ -1,16 +1,26 @@
 // A receiver hears a valid I/Q datagram.
 ghost use mathlib.Core.Path.{_≡_};
+ghost use Rattle.account.specs.Hearing.{eventOf, leftOut};
 ghost use Rattle.receiving.specs.Hears.{noted, acceptedBy};
+use super::elapsed::capped;
+use super::elapsed::plausible_lost_datagrams;
+use super::elapsed::unaccounted;
 use super::report::Report;
 use super::window::used;
 use account::receiver::Anchor;
 use account::receiver::Parked;
 use account::receiver::Reading;
 use account::receiver::Receiver;
+use wire::sequence::SeqEvent;
 use wire::sequence::SeqTracker;
 
+pub struct Judged {
+    pub event: SeqEvent,
+    pub receiver: Receiver,
+}
+
 // Stale too: the tracker moves, the wait anchor is emptied, and the time of the last valid I/Q is now. The read's own anchor stays.
-pub fn note_valid(r: Receiver, tracker: SeqTracker, now: u64) -> Receiver
+fn note_valid(r: Receiver, tracker: SeqTracker, now: u64) -> Receiver
     ensures { λ q. ⌜ q ≡ noted r tracker now ⌝ }
 {
     let reading = r.reading;
@@ -24,6 +34,24 @@ pub fn note_valid(r: Receiver, tracker: SeqTracker, now: u64) -> Receiver
     next.reading = heard;
     next.last_valid_iq = now;
     next
+}
+
+// The event that the number count is told as, and the receiver that heard it.
+pub fn judge(rate: f64, r: Receiver, now: u64, count: u32) -> Judged
+    ensures { λ j. ⌜ j ≡ record { event = eventOf rate r now count; receiver = leftOut r now count } ⌝ }
+{
+    let parked = r.parked;
+    let window = parked.window;
+    let since_last = unaccounted(rate, r.last_accepted_iq, window, now);
+    let tracker = r.tracker;
+    let seen = tracker.observe(count);
+    let observed = seen.event;
+    let moved = seen.tracker;
+    let event = capped(plausible_lost_datagrams(since_last, rate), observed);
+    Judged {
+        event,
+        receiver: note_valid(r, moved, now),
+    }
 }
 
 // Any event but Stale: its samples wait, and what it misses is told.

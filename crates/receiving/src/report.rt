@@ -3,6 +3,7 @@ ghost use mathlib.Core.Path.{_≡_};
 ghost use Prim.Native.Nat.{_*_, _≤_};
 ghost use lib.ListN.{length};
 ghost use Rattle.double.specs.Stream.{restartMissing};
+ghost use Rattle.wire.specs.Sequence.{after};
 ghost use Rattle.account.specs.Parts as Parts;
 ghost use Rattle.account.specs.Rules as Rules;
 ghost use Rattle.receiving.specs.Hears.{reportOf, missingBy};
@@ -90,6 +91,25 @@ fn report_restart(rate: f64, outage: u64, pending: Pending, health: InputHealthC
     }
 }
 
+// The time that a restart with this number misses.
+fn outage_after(
+    rate: f64,
+    r: Receiver,
+    reading: u64,
+    later: u64,
+    count: u32,
+    waiting: &[u32],
+) -> u64
+    requires { ⌜ length (now waiting) ≤ 8192 ⌝ }
+    ensures { λ t. ⌜ t ≡ Rules.outage rate (r .«last_accepted_iq») (r .parked .window) reading later (after count) (now (waiting .entry)) ⌝ }
+{
+    let parked = r.parked;
+    let window = parked.window;
+    let accepted = r.last_accepted_iq;
+    let next = std::num::wrapping_add_u32(count, 1);
+    restart_outage(rate, accepted, window, reading, later, next, waiting)
+}
+
 // What an event misses, told and counted. Stale misses nothing.
 pub fn report_event(
     rate: f64,
@@ -118,18 +138,7 @@ pub fn report_event(
             health,
         },
         SeqEvent::Restart => {
-            let parked = r.parked;
-            let window = parked.window;
-            let next = std::num::wrapping_add_u32(count, 1);
-            let outage = restart_outage(
-                rate,
-                r.last_accepted_iq,
-                window,
-                reading,
-                later,
-                next,
-                waiting,
-            );
+            let outage = outage_after(rate, r, reading, later, count, waiting);
             report_restart(rate, outage, pending, health)
         }
     }

@@ -12,17 +12,14 @@ use Rattle.octets.specs.Written.{written}
 use Rattle.octets.proofs.Picks.{pick-t, pick-f}
 use Rattle.octets.proofs.Tables.{length-tab}
 use Rattle.octets.proofs.Writes.{written-front}
-use Rattle.double.specs.Stream.{jumpLimit}
 use Rattle.wire.specs.Answer.{gives}
 use Rattle.wire.specs.Iq.{headerTold, samplesOf, Parsed}
-use Rattle.wire.specs.Sequence.{observed}
 use Rattle.wire.specs.declared.iq.IqAnswer.{IqAnswer}
-use Rattle.wire.specs.declared.sequence.Observed.{Observed}
 use Rattle.wire.specs.declared.sequence.SeqEvent.{SeqEvent}
 use Rattle.wire.specs.declared.sequence.SeqEvent.the-variants.{InOrder, Gap, Stale, Restart}
 use Rattle.wire.proofs.Headers.{parsed-samples}
 use Rattle.account.specs.Answer.{heard}
-use Rattle.account.specs.Rules.{elapsed, capped, missingOf, isStale}
+use Rattle.account.specs.Rules.{missingOf, isStale}
 use Rattle.account.specs.Host.{Incoming, Step}
 use Rattle.account.specs.State.{State, keeping}
 use Rattle.account.specs.Hearing.{eventOf, restartOf, leftOut, accepted, counted}
@@ -32,8 +29,8 @@ use Rattle.account.specs.declared.sender.Sender.{Sender}
 use Rattle.account.specs.declared.session.Common.{Common}
 use Rattle.account.specs.declared.session.Session.{Session}
 use Rattle.session.specs.Gives.{incoming}
-use Rattle.receiving.specs.Hears.{reportOf, missingBy, noted, acceptedBy}
-use Rattle.session.specs.Hears.{quieted, Hears}
+use Rattle.receiving.specs.Hears.{reportOf, missingBy, acceptedBy}
+use Rattle.session.specs.Hears.{quieted, acceptedAs, Hears}
 use Rattle.receiving.specs.declared.report.Report.{Report}
 use Rattle.session.specs.declared.hear.Heard.{Heard}
 
@@ -53,7 +50,21 @@ not-stale (Gap k) n = refl
 not-stale Stale n = absurd (n refl)
 not-stale Restart n = refl
 
-module _ (st : State) (reading later count : ℕ) (octets waiting : List ℕ) (since limit : ℕ) (seen : Observed) (event : SeqEvent) where
+-- what the code reports of an event is what the definition tells
+pub accepted-so : (s : Session) (valid : Receiver) (event : SeqEvent) (missing now : ℕ) (report : Report) (common : Common) (after : Receiver)
+    → report ≡ reportOf (s .common .settings .«sample_rate_hz») event missing (s .receiver .pending) (s .common .health)
+    → common ≡ quieted (s .common) (report .health) → after ≡ acceptedBy valid report now
+    → _≡_ {A = Heard} (record { event = event; missing = report .missing; session = record { common = common; receiver = after } })
+    (acceptedAs s valid event missing now)
+unfolding reportOf
+accepted-so s valid event missing now report common after hr hc ha =
+    ap (λ (x : Common). record { event = event; missing = report .missing; session = record { common = x; receiver = after } }) hc
+    ∙ ap (λ (x : Receiver). record { event = event; missing = report .missing; session = record { common = quieted (s .common) (report .health); receiver = x } }) ha
+    ∙ ap
+    (λ (x : Report). record { event = event; missing = x .missing; session = record { common = quieted (s .common) (x .health); receiver = acceptedBy valid x now } })
+    hr
+
+module _ (st : State) (reading later count : ℕ) (octets waiting : List ℕ) (event : SeqEvent) (valid : Receiver) where
   abbrev rate : Float
   rate = st .session .common .settings .«sample_rate_hz»
 
@@ -63,58 +74,45 @@ module _ (st : State) (reading later count : ℕ) (octets waiting : List ℕ) (s
   abbrev c : Common
   c = st .session .common
 
-  module _ (he : since ≡ elapsed rate (r .«last_accepted_iq») (r .parked .window) reading) (hl : limit ≡ jumpLimit since rate)
-      (hs : seen ≡ observed (r .tracker) count) (hc : event ≡ capped limit (seen .event)) where
-    event-is : event ≡ eventOf rate r reading count
-    unfolding eventOf
-    event-is =
-        hc
-        ∙ ap (λ (x : Observed). capped limit (x .event)) hs
-        ∙ ap (λ (n : ℕ). capped n (observed (r .tracker) count .event)) (hl ∙ ap (λ (n : ℕ). jumpLimit n rate) he)
-
+  module _ (he : event ≡ eventOf rate r reading count) (hv : valid ≡ leftOut r reading count) where
     -- what is heard, by the event that the code told
     heard-by : (from : Sender) (d : List ℕ)
         → hear st (incoming reading later from octets waiting) d count event (missingBy rate event r reading later count waiting)
         ≡ heardIq st (incoming reading later from octets waiting) d count
     unfolding heardIq heardAs missingBy restartOf
-    heard-by from d = ap (heardAs st (incoming reading later from octets waiting) d count) event-is
+    heard-by from d = ap (heardAs st (incoming reading later from octets waiting) d count) he
 
-    pub heard-stale : (valid : Receiver) (common : Common) → event ≡ Stale → valid ≡ noted r (seen .tracker) reading → common ≡ quieted c (c .health)
+    pub heard-stale : (common : Common) → event ≡ Stale → common ≡ quieted c (c .health)
         → Hears st reading later count octets waiting (record { event = event; missing = 0; session = record { common = common; receiver = valid } }) (st .samples)
-    unfolding hear missingBy missingOf counted leftOut
-    heard-stale valid common e hv hq =
+    unfolding hear missingBy missingOf counted
+    heard-stale common e hq =
         record {
           hears =
               λ from d.
               ap (λ (x : Common). keeping (st .samples) (told (heard event 0) d (record { common = x; receiver = valid }))) hq
               ∙ ap (λ (x : Receiver). keeping (st .samples) (told (heard event 0) d (record { common = quieted c (c .health); receiver = x }))) hv
-              ∙ ap (λ (x : Observed). keeping (st .samples) (told (heard event 0) d (record { common = quieted c (c .health); receiver = noted r (x .tracker) reading }))) hs
               ∙ ap (λ (x : SeqEvent). keeping (st .samples) (told (heard x 0) d (record { common = quieted c (c .health); receiver = leftOut r reading count }))) e
               ∙ sym (pick-t _ _ _ refl)
               ∙ ap (λ (x : SeqEvent). hear st (incoming reading later from octets waiting) d count x (missingBy rate x r reading later count waiting)) (sym e)
               ∙ heard-by from d;
         }
 
-    pub heard-accepted : (valid after : Receiver) (common : Common) (report : Report) (e : List Float) → (event ≡ Stale → ⊥)
-        → valid ≡ noted r (seen .tracker) reading
-        → report ≡ reportOf rate event (missingBy rate event r reading later count waiting) (r .pending) (c .health)
-        → common ≡ quieted c (report .health) → after ≡ acceptedBy valid report reading → e ≡ samplesOf octets
-        → Hears st reading later count octets waiting (record { event = event; missing = report .missing; session = record { common = common; receiver = after } }) e
-    unfolding hear reportOf accepted
-    heard-accepted valid after common report e n hv hr hq ha he =
+    pub heard-accepted : (h : Heard) (e : List Float) → (event ≡ Stale → ⊥)
+        → h ≡ acceptedAs (st .session) valid event (missingBy rate event r reading later count waiting) reading → e ≡ samplesOf octets
+        → Hears st reading later count octets waiting h e
+    unfolding hear reportOf accepted leftOut
+    heard-accepted h e n hh hs =
         let m = missingBy rate event r reading later count waiting in
-        let p = reportOf rate event m (r .pending) (c .health) in
         record {
           hears =
               λ from d.
-              ap (λ (x : List Float). keeping x (told (heard event (report .missing)) d (record { common = common; receiver = after }))) he
-              ∙ ap (λ (x : Common). keeping (samplesOf octets) (told (heard event (report .missing)) d (record { common = x; receiver = after }))) hq
-              ∙ ap (λ (x : Receiver). keeping (samplesOf octets) (told (heard event (report .missing)) d (record { common = quieted c (report .health); receiver = x }))) ha
-              ∙ ap (λ (x : Report). keeping (samplesOf octets) (told (heard event (x .missing)) d (record { common = quieted c (x .health); receiver = acceptedBy valid x reading }))) hr
-              ∙ ap (λ (x : Receiver). keeping (samplesOf octets) (told (heard event (p .missing)) d (record { common = quieted c (p .health); receiver = acceptedBy x p reading }))) hv
+              ap (λ (x : List Float). keeping x (told (heard (h .event) (h .missing)) d (h .session))) hs
+              ∙ ap (λ (x : Heard). keeping (samplesOf octets) (told (heard (x .event) (x .missing)) d (x .session))) hh
               ∙ ap
-              (λ (x : Observed). keeping (samplesOf octets) (told (heard event (p .missing)) d (record { common = quieted c (p .health); receiver = acceptedBy (noted r (x .tracker) reading) p reading })))
-              hs
+              (λ (x : Receiver).
+              let a = acceptedAs (st .session) x event m reading in
+              keeping (samplesOf octets) (told (heard (a .event) (a .missing)) d (a .session)))
+              hv
               ∙ sym (pick-f _ _ _ (not-stale event n))
               ∙ heard-by from d;
         }

@@ -6,15 +6,14 @@ ghost use lib.ListN.{length};
 ghost use Rattle.wire.specs.Answer.{gives};
 ghost use Rattle.wire.specs.Iq.{headerTold};
 ghost use Rattle.session.specs.Gives.{joined};
-ghost use Rattle.session.specs.Hears.{Hears, quieted};
+ghost use Rattle.session.specs.Hears.{Hears, quieted, acceptedAs};
+ghost use Rattle.receiving.specs.Hears.{missingBy};
+use account::receiver::Receiver;
 use account::session::Common;
 use account::session::Session;
 use health::InputHealthCounters;
-use receiving::elapsed::capped;
-use receiving::elapsed::plausible_lost_datagrams;
-use receiving::elapsed::unaccounted;
 use receiving::hear::accept;
-use receiving::hear::note_valid;
+use receiving::hear::judge;
 use receiving::report::report_event;
 use wire::iq::parse_iq_datagram;
 use wire::sequence::SeqEvent;
@@ -35,6 +34,44 @@ fn note_heard(c: Common, health: InputHealthCounters) -> Common
     next
 }
 
+// An arrival that is accepted as this event: what it misses is told, and its samples wait.
+fn accepted(
+    s: Session,
+    valid: Receiver,
+    event: SeqEvent,
+    reading: u64,
+    later: u64,
+    count: u32,
+    waiting: &[u32],
+) -> Heard
+    requires { ⌜ length (now waiting) ≤ 8192 ⌝ }
+    ensures { λ r. ⌜ r ≡ acceptedAs s valid event (missingBy (s .common .settings .«sample_rate_hz») event (s .receiver) reading later count (now (waiting .entry))) reading ⌝ }
+{
+    let common = s.common;
+    let receiver = s.receiver;
+    let rate = common.settings.sample_rate_hz;
+    let health = common.health;
+    let report = report_event(
+        rate,
+        event,
+        receiver,
+        health,
+        reading,
+        later,
+        count,
+        waiting,
+    );
+    let counted = report.health;
+    Heard {
+        event,
+        missing: report.missing,
+        session: Session {
+            common: note_heard(common, counted),
+            receiver: accept(valid, report, reading),
+        },
+    }
+}
+
 // The number is judged before a sample is written: Stale leaves the lent samples as they were.
 pub(crate) fn handle_iq(
     s: Session,
@@ -51,38 +88,14 @@ pub(crate) fn handle_iq(
     let common = s.common;
     let receiver = s.receiver;
     let rate = common.settings.sample_rate_hz;
-    let parked = receiver.parked;
-    let window = parked.window;
-    let since_last = unaccounted(rate, receiver.last_accepted_iq, window, reading);
-    let tracker = receiver.tracker;
-    let seen = tracker.observe(count);
-    let observed = seen.event;
-    let event = capped(plausible_lost_datagrams(since_last, rate), observed);
-    let moved = seen.tracker;
-    let valid = note_valid(receiver, moved, reading);
-    let health = common.health;
+    let judged = judge(rate, receiver, reading, count);
+    let event = judged.event;
+    let valid = judged.receiver;
     let SeqEvent::Stale = event else {
         parse_iq_datagram(datagram, samples);
-        let report = report_event(
-            rate,
-            event,
-            receiver,
-            health,
-            reading,
-            later,
-            count,
-            waiting,
-        );
-        let counted = report.health;
-        return Heard {
-            event,
-            missing: report.missing,
-            session: Session {
-                common: note_heard(common, counted),
-                receiver: accept(valid, report, reading),
-            },
-        };
+        return accepted(s, valid, event, reading, later, count, waiting);
     };
+    let health = common.health;
     Heard {
         event,
         missing: 0,

@@ -1,14 +1,13 @@
 -- `receiving::report::report_event` meets its contract: by the event. Assumes nothing.
-use borrow.Author.Needs.{needs}
 use Prim.Native.Nat.{ℕ}
 use mathlib.Core.Path.{ap, sym, _∙_}
 use Rattle.double.specs.Stream.{restartMissing}
-use Rattle.wire.specs.Sequence.{after}
 use Rattle.wire.specs.declared.sequence.SeqEvent.{SeqEvent}
 use Rattle.wire.specs.declared.sequence.SeqEvent.the-variants.{Restart}
-use Rattle.account.specs.Rules.{missingOf, pendingAfter, outage}
+use Rattle.account.specs.Rules.{missingOf, pendingAfter}
 use Rattle.account.specs.Hearing.{counted}
 use Rattle.receiving.specs.Hears.{reportOf, missingBy}
+use borrow.Author.Needs.{needs}
 use Rattle.receiving.proofs.report.report_event.Statement.{statement}
 use Rattle.receiving.proofs.report.report_event.Tie as tie
 
@@ -27,11 +26,8 @@ enum-told-2 c = search needs
 enum-told-3 : tie.Need-enum-told-3
 enum-told-3 c = search needs
 
-wrapping-add-u32-requires : tie.Need-wrapping-add-u32-requires
-wrapping-add-u32-requires c κs = search needs
-
-restart-outage-requires : tie.Need-restart-outage-requires
-restart-outage-requires c κs = search needs
+outage-after-requires : tie.Need-outage-after-requires
+outage-after-requires c κs = search needs
 
 report-restart-requires : tie.Need-report-restart-requires
 report-restart-requires c κs = search needs
@@ -42,22 +38,18 @@ returns c = simp (c .enum-told .given .1)
 
 returns-2 : tie.Need-returns-2
 unfolding missingBy missingOf
-returns-2 c = let a = c .before .before .before .before .before .before .args in
-    c .report-gap .ensures
-    ∙ ap (λ (e : SeqEvent). reportOf (a .rate) e (missingBy (a .rate) e (a .r) (a .reading) (a .later) (a .count) (a .waiting .now)) (a .r .pending) (a .health)) (sym (c .before .before .event .given .1))
+returns-2 c = let a = c .before .before .before .before .before .before .args in c .report-gap .ensures ∙ ap (λ (e : SeqEvent). reportOf (a .rate) e (missingBy (a .rate) e (a .r) (a .reading) (a .later) (a .count) (a .waiting .now)) (a .r .pending) (a .health)) (sym (c .before .before .event .given .1))
 
 returns-3 : tie.Need-returns-3
 unfolding reportOf missingBy missingOf pendingAfter counted
 returns-3 c = simp (c .enum-told2 .given .1)
 
 returns-4 : tie.Need-returns-4
-unfolding missingBy missingOf after
-returns-4 c = let a = c .before .before .before .before .before .before .before .before .args in
-    let w = a .r .parked .window in
+unfolding missingBy missingOf
+returns-4 c = let a = c .before .before .before .before .before .before .args in
     c .report-restart .ensures
-    ∙ ap (λ (n : ℕ). reportOf (a .rate) Restart (restartMissing n (a .rate)) (a .r .pending) (a .health))
-    (c .before .restart-outage .ensures ∙ ap (λ (n : ℕ). outage (a .rate) (a .r .«last_accepted_iq») w (a .reading) (a .later) n (a .waiting .now)) (c .before .before .wrapping-add-u32 .ensures))
-    ∙ ap (λ (e : SeqEvent). reportOf (a .rate) e (missingBy (a .rate) e (a .r) (a .reading) (a .later) (a .count) (a .waiting .now)) (a .r .pending) (a .health)) (sym (c .before .before .before .before .enum-told3 .given .1))
+    ∙ ap (λ (n : ℕ). reportOf (a .rate) Restart (restartMissing n (a .rate)) (a .r .pending) (a .health)) (c .before .outage-after .ensures)
+    ∙ ap (λ (e : SeqEvent). reportOf (a .rate) e (missingBy (a .rate) e (a .r) (a .reading) (a .later) (a .count) (a .waiting .now)) (a .r .pending) (a .health)) (sym (c .before .before .enum-told3 .given .1))
 
 pub report-event-spec : {M : Type 1} → statement M
 report-event-spec =
@@ -68,8 +60,7 @@ report-event-spec =
     report-gap-requires
     enum-told-2
     enum-told-3
-    wrapping-add-u32-requires
-    restart-outage-requires
+    outage-after-requires
     report-restart-requires
     returns
     returns-2

@@ -1,0 +1,36 @@
+-- `receiving::hear::judge` meets its contract. Assumes nothing.
+use Rattle.receiving.proofs.Reports.{judged-so}
+use borrow.Author.Needs.{needs}
+use Rattle.receiving.proofs.hear.judge.Statement.{statement}
+use Rattle.receiving.proofs.hear.judge.Tie as tie
+
+unaccounted-requires : tie.Need-unaccounted-requires
+unaccounted-requires c κs = search needs
+
+observe-requires : tie.Need-observe-requires
+observe-requires c κs = search needs
+
+plausible-lost-datagrams-requires : tie.Need-plausible-lost-datagrams-requires
+plausible-lost-datagrams-requires c κs = search needs
+
+capped-requires : tie.Need-capped-requires
+capped-requires c κs = search needs
+
+note-valid-requires : tie.Need-note-valid-requires
+note-valid-requires c κs = search needs
+
+returns : tie.Need-returns
+returns c = let a = c .before .before .before .before .before .before .before .before .args in
+    judged-so (a .rate) (a .r) (a .now) (a .count) _ _ _ _ _ (c .before .before .before .before .before .before .unaccounted .ensures) (c .before .before .plausible-lost-datagrams .ensures) (c .before .before .before .before .observe .ensures)
+    (c .before .capped .ensures) (c .note-valid .ensures)
+
+pub judge-spec : {M : Type 1} → statement M
+judge-spec =
+    tie.close
+    (tie.spec
+    unaccounted-requires
+    observe-requires
+    plausible-lost-datagrams-requires
+    capped-requires
+    note-valid-requires
+    returns)
