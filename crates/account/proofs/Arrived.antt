@@ -13,7 +13,7 @@ use Rattle.wire.specs.declared.sequence.SeqEvent.{SeqEvent}
 use Rattle.wire.specs.declared.sequence.SeqEvent.the-variants.{InOrder, Gap, Stale, Restart}
 use Rattle.account.specs.Answer.{Answer, done, heard}
 use Rattle.account.specs.Answer as Answer
-use Rattle.account.specs.Parts.{with-receiver}
+use Rattle.account.specs.Parts.{with-common, with-receiver}
 use Rattle.account.specs.Pass.{shut}
 use Rattle.account.specs.declared.session.Attenuation.{Attenuation}
 use Rattle.account.specs.declared.session.Attenuation.the-variants.{Off, On}
@@ -103,7 +103,7 @@ module _ (s : Settings) (b : Book) (st : State) (n : ℕ) (h : Same s b st) (i :
     exact-of = (refl, told ∙ missing-in (b .expected) (limitIn s b (i .now)) (b .run) n (restartIn s b i n))
 
   -- a restart's figure is the book's
-  restart-is : restartOf (s .«sample_rate_hz») (st .session .receiver) i (n % 0x1_0000_0000) ≡ restartIn s b i n
+  restart-is : restartOf (s .«sample_rate_hz») (st .session .receiver) (i .now) (i .later) (n % 0x1_0000_0000) (i .waiting) ≡ restartIn s b i n
   unfolding restartOf
   restart-is = rw (h .accepted, h .window, next n) refl
 
@@ -171,7 +171,7 @@ module _ (s : Settings) (b : Book) (st : State) (n : ℕ) (h : Same s b st) (i :
     unfolding heardAs
     heard-as =
         hears _
-        (ap (λ (x : Settings). missingOf ev (restartOf (x .«sample_rate_hz») (st .session .receiver) i count)) (h .settings)
+        (ap (λ (x : Settings). missingOf ev (restartOf (x .«sample_rate_hz») (st .session .receiver) (i .now) (i .later) count (i .waiting))) (h .settings)
         ∙ ap (λ (r : ℕ). missingOf ev r) restart-is)
 
     enters : Enters count (heardIq st i d count)
@@ -234,16 +234,16 @@ module _ (s : Settings) (b : Book) (st : State) (n : ℕ) (h : Same s b st) (i :
     status-keeps (On controller) (gives (bits ∷ vs)) =
         still s b st n h (Arrival i d) _ (quiet false) refl refl refl (stepped-steady _ _ _ ∙ h .settings) refl refl refl refl refl refl
 
-    one-more-keeps : Mute (told (done Answer.malformed) d (oneMore (later .session)))
+    one-more-keeps : Mute (told (done Answer.malformed) d (with-common (later .session) (oneMore (later .session .common))))
     unfolding oneMore
     one-more-keeps =
-        still s b st n h (Arrival i d) (keeping (st .samples) (told (done Answer.malformed) d (oneMore (later .session)))) (quiet false) refl refl refl (h .settings) refl refl refl refl refl refl
+        still s b st n h (Arrival i d) (keeping (st .samples) (told (done Answer.malformed) d (with-common (later .session) (oneMore (later .session .common))))) (quiet false) refl refl refl (h .settings) refl refl refl refl refl refl
 
-    limit-keeps : Mute (told (done Answer.malformedLimit) d (with-receiver (oneMore (later .session)) (shut (oneMore (later .session) .receiver))))
+    limit-keeps : Mute (told (done Answer.malformedLimit) d (with-receiver (with-common (later .session) (oneMore (later .session .common))) (shut (later .session .receiver))))
     unfolding oneMore
     limit-keeps =
         still s b st n h (Arrival i d)
-        (keeping (st .samples) (told (done Answer.malformedLimit) d (with-receiver (oneMore (later .session)) (shut (oneMore (later .session) .receiver)))))
+        (keeping (st .samples) (told (done Answer.malformedLimit) d (with-receiver (with-common (later .session) (oneMore (later .session .common))) (shut (later .session .receiver)))))
         (quiet false) refl refl refl (h .settings) refl refl refl refl refl refl
 
     malformed-keeps : Mute (heardMalformed (later .session) d)

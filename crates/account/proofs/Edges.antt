@@ -18,7 +18,7 @@ use Rattle.account.specs.Routing.{byOffset, routed}
 use Rattle.account.specs.State.{left, waits}
 use Rattle.account.specs.Open.{freshCommon, freshReceiver, fresh, opened}
 use Rattle.account.specs.Begin.{orAt, begunBy, begin}
-use Rattle.account.specs.Hearing.{eventOf, restartOf, accepted}
+use Rattle.account.specs.Hearing.{eventOf, restartOf, leftOut, accepted}
 use Rattle.account.specs.Arrival.{hear, heardAs, heardIq, arrived, arrival}
 use Rattle.account.specs.Take.{handed, handOut, takeOut}
 use Rattle.account.specs.Drain.{takeMissing, takeDiscontinuity}
@@ -31,7 +31,7 @@ Hold es = map (λ (e : Edge). e .worked) es ≡ map (λ (e : Edge). e .is) es
 session-edges : Hold sessionEdges
 unfolding pick accepts settingsTold isRate rateAt first khzOf eq ofInt wholeCentre belowNyquist isWhole lt opened fresh freshCommon freshReceiver step
     begin begunBy orAt begun refilled arrival arrived routed byOffset headerTold rows heardIq heardAs hear eventOf capped
-    Sequence.observed Sequence.meant Sequence.less Sequence.after Sequence.zeroRestarts elapsed jumpLimit plausible natOf secondsOf add mul div waits left accepted used missingOf
+    Sequence.observed Sequence.meant Sequence.less Sequence.after Sequence.zeroRestarts elapsed jumpLimit plausible natOf secondsOf add mul div waits left accepted leftOut used missingOf
     takeOut handOut handed restartMissing rounded sub outage restartOf pendingAfter added belowHalf takeMissing takeDiscontinuity round
 session-edges = refl
 

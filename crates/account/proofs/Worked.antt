@@ -15,7 +15,7 @@ use Rattle.account.specs.Rules.{begun, refilled, used, elapsed, capped, 
 use Rattle.account.specs.Routing.{byOffset, routed}
 use Rattle.account.specs.State.{left, waits}
 use Rattle.account.specs.Open.{freshCommon}
-use Rattle.account.specs.Hearing.{eventOf, restartOf, accepted}
+use Rattle.account.specs.Hearing.{eventOf, restartOf, leftOut, accepted}
 use Rattle.account.specs.Arrival.{hear, heardAs, heardIq, arrived, arrival}
 use Rattle.account.specs.Session.{step}
 use Rattle.account.specs.Whole.{fitsAbove, fitsBelow, fits}
@@ -52,7 +52,7 @@ unfolding pick settingsTold isRate rateAt first khzOf eq ofInt wholeCentre below
 rows-hold = refl
 
 pub arrivals-hold : Hold arrivalCases
-unfolding pick freshCommon step arrival arrived routed byOffset headerTold rows heardIq heardAs hear eventOf restartOf capped accepted used missingOf waits left
+unfolding pick freshCommon step arrival arrived routed byOffset headerTold rows heardIq heardAs hear eventOf restartOf capped accepted leftOut used missingOf waits left
     Sequence.observed Sequence.meant Sequence.less Sequence.after Sequence.zeroRestarts elapsed jumpLimit plausible natOf secondsOf ofInt add sub mul div
     restartMissing rounded round outage uncovered backlog datagrams accountTime coveredTime fits fitsAbove fitsBelow
 arrivals-hold = refl

@@ -11,6 +11,7 @@ use Rattle.wire.specs.Status.{overloadTold, overloaded}
 use Rattle.wire.specs.declared.sequence.SeqEvent.{SeqEvent}
 use Rattle.attenuator.specs.Controller as Controller
 use Rattle.health.specs.Counters.{countMalformed}
+use Rattle.health.specs.declared.InputHealthCounters.{InputHealthCounters}
 use Rattle.account.specs.Answer.{Answer, done, heard, ignored, status, malformed, malformedLimit}
 use Rattle.account.specs.Rules.{missingOf, isStale}
 use Rattle.account.specs.Routing.{Routed, routed}
@@ -33,8 +34,8 @@ abbrev pub told : Answer → List ℕ → Session → Step Session
 told answer d s = replied answer [] d [] s
 
 -- valid I/Q zeroes the malformed count
-abbrev pub heardCommon : SeqEvent → Common → Common
-heardCommon event c = with-consecutive-malformed (with-health c (counted event (c .health))) 0
+abbrev pub heardCommon : InputHealthCounters → Common → Common
+heardCommon health c = with-consecutive-malformed (with-health c health) 0
 
 -- Stale leaves the lent samples as they were; any other event puts the datagram's there
 unfoldable pub hear : State → Incoming → List ℕ → ℕ → SeqEvent → ℕ → Step State
@@ -42,17 +43,17 @@ hear st i d count event missing =
     let s = st .session in
     pick (isStale event)
     (keeping (st .samples) (told (heard event missing) d
-    (record { common = heardCommon event (s .common); receiver = leftOut (s .receiver) (i .now) count })))
+    (record { common = heardCommon (counted event (s .common .health)) (s .common); receiver = leftOut (s .receiver) (i .now) count })))
     (keeping (samplesOf (i .octets)) (told (heard event missing) d
     (record {
-      common = heardCommon event (s .common);
+      common = heardCommon (counted event (s .common .health)) (s .common);
       receiver = accepted (s .common .settings .«sample_rate_hz») (s .receiver) (i .now) count event missing;
     })))
 
 -- the arrival of the number count: its event, and its missing
 unfoldable pub heardAs : State → Incoming → List ℕ → ℕ → SeqEvent → Step State
 heardAs st i d count event =
-    hear st i d count event (missingOf event (restartOf (st .session .common .settings .«sample_rate_hz») (st .session .receiver) i count))
+    hear st i d count event (missingOf event (restartOf (st .session .common .settings .«sample_rate_hz») (st .session .receiver) (i .now) (i .later) count (i .waiting)))
 
 unfoldable pub heardIq : State → Incoming → List ℕ → ℕ → Step State
 heardIq st i d count =
@@ -71,17 +72,17 @@ unfoldable pub heardStatus : Session → Incoming → List ℕ → Step Session
 heardStatus s i d = overload s i d (s .common .attenuator .attenuation) (overloadTold (i .octets))
 
 -- one more malformed: the consecutive count saturates
-unfoldable pub oneMore : Session → Session
-oneMore s =
-    let c = s .common in
-    with-common s (with-health (with-consecutive-malformed c (min (c .«consecutive_malformed» + 1) 4294967295)) (countMalformed (c .health)))
+unfoldable pub oneMore : Common → Common
+oneMore c =
+    with-health (with-consecutive-malformed c (min (c .«consecutive_malformed» + 1) 4294967295)) (countMalformed (c .health))
 
 -- with the consecutive count at or past the limit (0 acts as 1) the read closes
 unfoldable pub heardMalformed : Session → List ℕ → Step Session
 heardMalformed s d =
-    pick (leb (s .common .settings .«max_consecutive_malformed») (oneMore s .common .«consecutive_malformed»))
-    (told (done malformedLimit) d (with-receiver (oneMore s) (shut (oneMore s .receiver))))
-    (told (done malformed) d (oneMore s))
+    let after = with-common s (oneMore (s .common)) in
+    pick (leb (s .common .settings .«max_consecutive_malformed») (after .common .«consecutive_malformed»))
+    (told (done malformedLimit) d (with-receiver after (shut (s .receiver))))
+    (told (done malformed) d after)
 
 unfoldable pub arrived : State → Incoming → List ℕ → Routed → Step State
 arrived st i d (Routing.iq count) = heardIq st i d count

@@ -1,5 +1,6 @@
 -- A receiver hears a valid I/Q datagram: its event, its missing, and the receiver after it. Definitions only.
 use Prim.Native.Nat.{ℕ}
+use mathlib.Core.List.{List}
 use lib.Ieee.{Float}
 use Rattle.double.specs.Stream.{jumpLimit, restartMissing}
 use Rattle.wire.specs.Sequence.{after, observed}
@@ -8,9 +9,9 @@ use Rattle.wire.specs.declared.sequence.SeqEvent.the-variants.{InOrder, Gap, St
 use Rattle.health.specs.Counters.{countDropped, countGap}
 use Rattle.health.specs.declared.InputHealthCounters.{InputHealthCounters}
 use Rattle.account.specs.Rules.{used, elapsed, capped, outage, pendingAfter}
-use Rattle.account.specs.Host.{Incoming}
 use Rattle.account.specs.Parts.{with-tracker, with-reading, with-last-valid-iq, with-wait-entered}
 use Rattle.account.specs.declared.receiver.Anchor.the-variants.{Unset}
+use Rattle.account.specs.declared.receiver.Pending.{Pending}
 use Rattle.account.specs.declared.receiver.Receiver.{Receiver}
 
 -- the event that is told: a gap over the jump limit is a restart
@@ -19,9 +20,9 @@ eventOf rate r now count =
     capped (jumpLimit (elapsed rate (r .«last_accepted_iq») (r .parked .window) now) rate) (observed (r .tracker) count .event)
 
 -- what it misses if it is a restart
-unfoldable pub restartOf : Float → Receiver → Incoming → ℕ → ℕ
-restartOf rate r i count =
-    restartMissing (outage rate (r .«last_accepted_iq») (r .parked .window) (i .now) (i .later) (after count) (i .waiting)) rate
+unfoldable pub restartOf : Float → Receiver → ℕ → ℕ → ℕ → List ℕ → ℕ
+restartOf rate r now later count waiting =
+    restartMissing (outage rate (r .«last_accepted_iq») (r .parked .window) now later (after count) waiting) rate
 
 -- Valid I/Q, Stale too, empties the wait anchor, and not the read's own
 abbrev pub valid : Receiver → ℕ → Receiver
@@ -31,20 +32,24 @@ valid r now = with-reading (with-last-valid-iq r now) (with-wait-entered (r .rea
 unfoldable pub leftOut : Receiver → ℕ → ℕ → Receiver
 leftOut r now count = with-tracker (valid r now) (observed (r .tracker) count .tracker)
 
--- any other event: its 238 samples wait, and its missing is told, added to the account and put into a slot
-unfoldable pub accepted : Float → Receiver → ℕ → ℕ → SeqEvent → ℕ → Receiver
-accepted rate r now count event missing =
+-- a receiver that heard it: its 238 samples wait, its missing is added to the account, and this is pending then
+abbrev pub queued : Receiver → ℕ → ℕ → Pending → Receiver
+queued r now missing pending =
     record {
-      tracker = observed (r .tracker) count .tracker;
+      tracker = r .tracker;
       «queue_pos» = 0;
-      reading = valid r now .reading;
+      reading = r .reading;
       parked = record { window = used (r .parked .window) missing };
-      pending = pendingAfter rate event missing (r .pending);
-      «last_valid_iq» = now;
+      pending = pending;
+      «last_valid_iq» = r .«last_valid_iq»;
       «last_accepted_iq» = now;
       «read_returned» = r .«read_returned»;
       stall = r .stall;
     }
+
+-- any other event: its samples wait, and its missing is told, added to the account and put into a slot
+unfoldable pub accepted : Float → Receiver → ℕ → ℕ → SeqEvent → ℕ → Receiver
+accepted rate r now count event missing = queued (leftOut r now count) now missing (pendingAfter rate event missing (r .pending))
 
 -- a gap k adds k dropped and one gap, a restart one gap
 unfoldable pub counted : SeqEvent → InputHealthCounters → InputHealthCounters

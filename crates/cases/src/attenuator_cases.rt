@@ -33,7 +33,7 @@ fn called(c: Controller, kind: u8, now: u64) -> Stepped {
     }
 }
 
-fn wide(x: u8) -> u32
+pub(crate) fn wide(x: u8) -> u32
     ensures { λ r. ⌜ r < 256 ⌝ }
 {
     x as u32

@@ -4,6 +4,7 @@ ghost use Prim.Native.Nat.{_+_, _≤_};
 ghost use lib.ListN.{length};
 use super::answer::Answer;
 use super::attenuator_cases::reading;
+use super::attenuator_cases::wide;
 use super::double_cases::double_of;
 use super::session_arrivals::arrival_told;
 use super::session_told::Told;
@@ -81,12 +82,6 @@ fn call_of(p: &[u8], at: usize) -> Call
         later: reading(p, at + 16),
         ip: octets::get_u32(p, at + 24),
     }
-}
-
-fn wide(x: u8) -> u32
-    ensures { λ r. ⌜ r ≤ 255 ⌝ }
-{
-    x as u32
 }
 
 fn put_word(p: &mut [u8], at: usize, word: u8, value: u64)

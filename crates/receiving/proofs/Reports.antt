@@ -8,10 +8,11 @@ use Rattle.double.specs.Stream.{jumpLimit}
 use Rattle.wire.specs.Sequence.{observed}
 use Rattle.wire.specs.declared.sequence.Observed.{Observed}
 use Rattle.account.specs.Rules.{elapsed, capped, pendingAfter}
-use Rattle.account.specs.Hearing.{eventOf, leftOut, counted}
+use Rattle.account.specs.Hearing.{valid, eventOf, leftOut, counted}
+use Rattle.account.specs.Parts.{with-tracker}
 use Rattle.account.specs.declared.receiver.Receiver.{Receiver}
 use Rattle.account.specs.declared.receiver.Pending.{Pending}
-use Rattle.receiving.specs.Hears.{reportOf, noted}
+use Rattle.receiving.specs.Report.{reportOf}
 use Rattle.receiving.specs.declared.hear.Judged.{Judged}
 use Rattle.receiving.specs.declared.report.Report.{Report}
 
@@ -25,13 +26,13 @@ module _ (rate : Float) (e : SeqEvent) (missing : ℕ) (p : Pending) (h : InputH
 
 -- ---- a number judged, from the parts that the code makes of it
 
-pub judged-so : (rate : Float) (r : Receiver) (now count since limit : ℕ) (seen : Observed) (event : SeqEvent) (valid : Receiver)
+pub judged-so : (rate : Float) (r : Receiver) (now count since limit : ℕ) (seen : Observed) (event : SeqEvent) (heard : Receiver)
     → since ≡ elapsed rate (r .«last_accepted_iq») (r .parked .window) now → limit ≡ jumpLimit since rate → seen ≡ observed (r .tracker) count
-    → event ≡ capped limit (seen .event) → valid ≡ noted r (seen .tracker) now
-    → _≡_ {A = Judged} (record { event = event; receiver = valid }) (record { event = eventOf rate r now count; receiver = leftOut r now count })
+    → event ≡ capped limit (seen .event) → heard ≡ with-tracker (valid r now) (seen .tracker)
+    → _≡_ {A = Judged} (record { event = event; receiver = heard }) (record { event = eventOf rate r now count; receiver = leftOut r now count })
 unfolding eventOf leftOut
-judged-so rate r now count since limit seen event valid he hl hs hc hv =
-    ap (λ (x : SeqEvent). record { event = x; receiver = valid }) hc
+judged-so rate r now count since limit seen event heard he hl hs hc hv =
+    ap (λ (x : SeqEvent). record { event = x; receiver = heard }) hc
     ∙ ap (λ (x : Receiver). record { event = capped limit (seen .event); receiver = x }) hv
-    ∙ ap (λ (x : Observed). record { event = capped limit (x .event); receiver = noted r (x .tracker) now }) hs
+    ∙ ap (λ (x : Observed). record { event = capped limit (x .event); receiver = with-tracker (valid r now) (x .tracker) }) hs
     ∙ ap (λ (n : ℕ). record { event = capped n (observed (r .tracker) count .event); receiver = leftOut r now count }) (hl ∙ ap (λ (n : ℕ). jumpLimit n rate) he)

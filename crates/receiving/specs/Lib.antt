@@ -1,2 +1,2 @@
 -- The definitions that the contracts of `receiving` cite beside account's.
-pub mod Hears
+pub mod Report

@@ -1,7 +1,7 @@
 // A receiver hears a valid I/Q datagram.
 ghost use mathlib.Core.Path.{_≡_};
-ghost use Rattle.account.specs.Hearing.{eventOf, leftOut};
-ghost use Rattle.receiving.specs.Hears.{noted, acceptedBy};
+ghost use Rattle.account.specs.Hearing.{valid, eventOf, leftOut, queued};
+ghost use Rattle.account.specs.Parts.{with-tracker};
 use super::elapsed::capped;
 use super::elapsed::plausible_lost_datagrams;
 use super::elapsed::unaccounted;
@@ -21,7 +21,7 @@ pub struct Judged {
 
 // Stale too: the tracker moves, the wait anchor is emptied, and the time of the last valid I/Q is now. The read's own anchor stays.
 fn note_valid(r: Receiver, tracker: SeqTracker, now: u64) -> Receiver
-    ensures { λ q. ⌜ q ≡ noted r tracker now ⌝ }
+    ensures { λ q. ⌜ q ≡ with-tracker (valid r now) tracker ⌝ }
 {
     let reading = r.reading;
     let entered = reading.entered;
@@ -56,7 +56,7 @@ pub fn judge(rate: f64, r: Receiver, now: u64, count: u32) -> Judged
 
 // Any event but Stale: its samples wait, and what it misses is told.
 pub fn accept(r: Receiver, report: Report, now: u64) -> Receiver
-    ensures { λ q. ⌜ q ≡ acceptedBy r report now ⌝ }
+    ensures { λ q. ⌜ q ≡ queued r now (report .missing) (report .pending) ⌝ }
 {
     let parked = r.parked;
     let window = parked.window;

@@ -9,7 +9,7 @@ use super::read::shut;
 use account::receiver::Receiver;
 
 // I/Q pairs in a datagram, and so in the lent samples.
-const SAMPLES_PER_DATAGRAM: usize = 238;
+pub const SAMPLES_PER_DATAGRAM: usize = 238;
 
 // How many samples wait.
 pub fn left(r: Receiver) -> usize

@@ -4,9 +4,10 @@ ghost use Prim.Native.Nat.{_*_, _≤_};
 ghost use lib.ListN.{length};
 ghost use Rattle.double.specs.Stream.{restartMissing};
 ghost use Rattle.wire.specs.Sequence.{after};
+ghost use Rattle.account.specs.Hearing.{restartOf};
 ghost use Rattle.account.specs.Parts as Parts;
 ghost use Rattle.account.specs.Rules as Rules;
-ghost use Rattle.receiving.specs.Hears.{reportOf, missingBy};
+ghost use Rattle.receiving.specs.Report.{reportOf};
 use super::elapsed::restart_outage;
 use account::receiver::Pending;
 use account::receiver::Receiver;
@@ -18,7 +19,7 @@ use health::InputHealthCounters;
 use wire::sequence::SeqEvent;
 
 // The samples of a datagram.
-const SAMPLES_PER_DATAGRAM: u64 = 238;
+pub(crate) const SAMPLES_PER_DATAGRAM: u64 = 238;
 
 pub struct Report {
     pub missing: u64,
@@ -122,7 +123,7 @@ pub fn report_event(
     waiting: &[u32],
 ) -> Report
     requires { ⌜ length (now waiting) ≤ 8192 ⌝ }
-    ensures { λ p. ⌜ p ≡ reportOf rate event (missingBy rate event r reading later count (now (waiting .entry))) (r .pending) health ⌝ }
+    ensures { λ p. ⌜ p ≡ reportOf rate event (Rules.missingOf event (restartOf rate r reading later count (now (waiting .entry)))) (r .pending) health ⌝ }
 {
     let pending = r.pending;
     match event {

@@ -1,15 +1,13 @@
 // The park window: a pause opens or refills it, an accepted arrival uses it.
 ghost use mathlib.Core.Path.{_≡_};
 ghost use Rattle.account.specs.Rules as Rules;
+use super::report::SAMPLES_PER_DATAGRAM;
 use account::receiver::Window;
 use double::time::since;
 use double::whole::saturating_add;
 
 // A pause this long between reads, in nanoseconds, parks the socket.
 const PARKED_AFTER: u64 = 100_000_000;
-
-// The samples of a datagram.
-const SAMPLES_PER_DATAGRAM: u64 = 238;
 
 // Opened at the last Take, or refilled where it is open.
 fn refilled(window: Window, size: u64, taken: u64) -> Window

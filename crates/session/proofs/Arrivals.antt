@@ -1,7 +1,7 @@
 -- Arrival: its rows in order, and a status packet's and a malformed datagram's answers. Assumes nothing.
-use Prim.Native.Nat.{ℕ, _+_, _≤_, _<_, min}
+use Prim.Native.Nat.{ℕ, _≤_, _<_}
 use mathlib.Core.Path.{_≡_, refl, sym, ap, _∙_}
-use mathlib.Core.Bool.{true, false}
+use mathlib.Core.Bool.{Bool, true, false}
 use mathlib.Core.List.{List, [], _∷_}
 use lib.ListN.{length}
 use lib.Dec.{leb}
@@ -13,13 +13,12 @@ use Rattle.wire.specs.declared.status.OverloadBits.{OverloadBits}
 use Rattle.wire.specs.declared.status.OverloadBits.the-variants.{Bits, NoBits}
 use Rattle.attenuator.specs.Controller as Controller
 use Rattle.attenuator.specs.declared.Controller.{Controller}
-use Rattle.health.specs.Counters.{countMalformed}
 use Rattle.account.specs.Answer.{Answer, done, ignored, status, malformed, malformedLimit}
 use Rattle.account.specs.Host.{Incoming, Step}
 use Rattle.account.specs.State.{State, waits, notReading, fell, refuse}
 use Rattle.account.specs.Sending.{stepped, wrote}
 use Rattle.account.specs.Pass.{shut}
-use Rattle.account.specs.Parts.{with-common, with-receiver, with-consecutive-malformed, with-health}
+use Rattle.account.specs.Parts.{with-common, with-receiver}
 use Rattle.account.specs.Arrival.{told, overload, heardStatus, oneMore, heardMalformed, arrived, atReading, route, arrival}
 use Rattle.account.specs.declared.receiver.Receiver.{Receiver}
 use Rattle.account.specs.declared.session.Attenuation.{Attenuation}
@@ -92,24 +91,19 @@ module _ (s : Session) (i : Incoming) (d : List ℕ) where
 
 -- ---- a malformed datagram
 
-module _ (s : Session) (d : List ℕ) (c : Common)
-    (e : c ≡ with-health (with-consecutive-malformed (s .common) (min (s .common .«consecutive_malformed» + 1) 4294967295)) (countMalformed (s .common .health))) where
-  after-is : with-common s c ≡ oneMore s
-  unfolding oneMore
-  after-is = ap (with-common s) e
-
-  count-is : oneMore s .common .«consecutive_malformed» ≡ c .«consecutive_malformed»
-  count-is = ap (λ (x : Session). x .common .«consecutive_malformed») (sym after-is)
+module _ (s : Session) (d : List ℕ) (c : Common) (e : c ≡ oneMore (s .common)) where
+  limit-is : (b : Bool) → leb (s .common .settings .«max_consecutive_malformed») (c .«consecutive_malformed») ≡ b
+      → leb (s .common .settings .«max_consecutive_malformed») (oneMore (s .common) .«consecutive_malformed») ≡ b
+  limit-is b h = ap (λ (x : Common). leb (s .common .settings .«max_consecutive_malformed») (x .«consecutive_malformed»)) (sym e) ∙ h
 
   pub malformed-limit : (q : Receiver) → s .common .settings .«max_consecutive_malformed» ≤ c .«consecutive_malformed» → q ≡ shut (s .receiver)
       → heardMalformed s d ≡ told (done malformedLimit) d (with-receiver (with-common s c) q)
   unfolding heardMalformed
   malformed-limit q l h =
-      pick-t _ _ _ (ap (leb (s .common .settings .«max_consecutive_malformed»)) count-is ∙ le-leb _ _ l)
-      ∙ ap (λ (x : Session). told (done malformedLimit) d (with-receiver x (shut (x .receiver)))) (sym after-is)
+      pick-t _ _ _ (limit-is true (le-leb _ _ l))
+      ∙ ap (λ (x : Common). told (done malformedLimit) d (with-receiver (with-common s x) (shut (s .receiver)))) (sym e)
       ∙ ap (λ (x : Receiver). told (done malformedLimit) d (with-receiver (with-common s c) x)) (sym h)
 
   pub malformed-on : c .«consecutive_malformed» < s .common .settings .«max_consecutive_malformed» → heardMalformed s d ≡ told (done malformed) d (with-common s c)
   unfolding heardMalformed
-  malformed-on l =
-      pick-f _ _ _ (ap (leb (s .common .settings .«max_consecutive_malformed»)) count-is ∙ lt-leb _ _ l) ∙ ap (told (done malformed) d) (sym after-is)
+  malformed-on l = pick-f _ _ _ (limit-is false (lt-leb _ _ l)) ∙ ap (λ (x : Common). told (done malformed) d (with-common s x)) (sym e)

@@ -22,15 +22,15 @@ use Rattle.account.specs.Answer.{heard}
 use Rattle.account.specs.Rules.{missingOf, isStale}
 use Rattle.account.specs.Host.{Incoming, Step}
 use Rattle.account.specs.State.{State, keeping}
-use Rattle.account.specs.Hearing.{eventOf, restartOf, leftOut, accepted, counted}
-use Rattle.account.specs.Arrival.{told, hear, heardAs, heardIq}
+use Rattle.account.specs.Hearing.{eventOf, restartOf, leftOut, queued, accepted, counted}
+use Rattle.account.specs.Arrival.{told, heardCommon, hear, heardAs, heardIq}
 use Rattle.account.specs.declared.receiver.Receiver.{Receiver}
 use Rattle.account.specs.declared.sender.Sender.{Sender}
 use Rattle.account.specs.declared.session.Common.{Common}
 use Rattle.account.specs.declared.session.Session.{Session}
 use Rattle.session.specs.Gives.{incoming}
-use Rattle.receiving.specs.Hears.{reportOf, missingBy, acceptedBy}
-use Rattle.session.specs.Hears.{quieted, acceptedAs, Hears}
+use Rattle.receiving.specs.Report.{reportOf}
+use Rattle.session.specs.Hears.{acceptedAs, Hears}
 use Rattle.receiving.specs.declared.report.Report.{Report}
 use Rattle.session.specs.declared.hear.Heard.{Heard}
 
@@ -53,15 +53,15 @@ not-stale Restart n = refl
 -- what the code reports of an event is what the definition tells
 pub accepted-so : (s : Session) (valid : Receiver) (event : SeqEvent) (missing now : ℕ) (report : Report) (common : Common) (after : Receiver)
     → report ≡ reportOf (s .common .settings .«sample_rate_hz») event missing (s .receiver .pending) (s .common .health)
-    → common ≡ quieted (s .common) (report .health) → after ≡ acceptedBy valid report now
+    → common ≡ heardCommon (report .health) (s .common) → after ≡ queued valid now (report .missing) (report .pending)
     → _≡_ {A = Heard} (record { event = event; missing = report .missing; session = record { common = common; receiver = after } })
     (acceptedAs s valid event missing now)
 unfolding reportOf
 accepted-so s valid event missing now report common after hr hc ha =
     ap (λ (x : Common). record { event = event; missing = report .missing; session = record { common = x; receiver = after } }) hc
-    ∙ ap (λ (x : Receiver). record { event = event; missing = report .missing; session = record { common = quieted (s .common) (report .health); receiver = x } }) ha
+    ∙ ap (λ (x : Receiver). record { event = event; missing = report .missing; session = record { common = heardCommon (report .health) (s .common); receiver = x } }) ha
     ∙ ap
-    (λ (x : Report). record { event = event; missing = x .missing; session = record { common = quieted (s .common) (x .health); receiver = acceptedBy valid x now } })
+    (λ (x : Report). record { event = event; missing = x .missing; session = record { common = heardCommon (x .health) (s .common); receiver = queued valid now (x .missing) (x .pending) } })
     hr
 
 module _ (st : State) (reading later count : ℕ) (octets waiting : List ℕ) (event : SeqEvent) (valid : Receiver) where
@@ -77,32 +77,32 @@ module _ (st : State) (reading later count : ℕ) (octets waiting : List ℕ) (e
   module _ (he : event ≡ eventOf rate r reading count) (hv : valid ≡ leftOut r reading count) where
     -- what is heard, by the event that the code told
     heard-by : (from : Sender) (d : List ℕ)
-        → hear st (incoming reading later from octets waiting) d count event (missingBy rate event r reading later count waiting)
+        → hear st (incoming reading later from octets waiting) d count event (missingOf event (restartOf rate r reading later count waiting))
         ≡ heardIq st (incoming reading later from octets waiting) d count
-    unfolding heardIq heardAs missingBy restartOf
+    unfolding heardIq heardAs
     heard-by from d = ap (heardAs st (incoming reading later from octets waiting) d count) he
 
-    pub heard-stale : (common : Common) → event ≡ Stale → common ≡ quieted c (c .health)
+    pub heard-stale : (common : Common) → event ≡ Stale → common ≡ heardCommon (c .health) c
         → Hears st reading later count octets waiting (record { event = event; missing = 0; session = record { common = common; receiver = valid } }) (st .samples)
-    unfolding hear missingBy missingOf counted
+    unfolding hear missingOf counted
     heard-stale common e hq =
         record {
           hears =
               λ from d.
               ap (λ (x : Common). keeping (st .samples) (told (heard event 0) d (record { common = x; receiver = valid }))) hq
-              ∙ ap (λ (x : Receiver). keeping (st .samples) (told (heard event 0) d (record { common = quieted c (c .health); receiver = x }))) hv
-              ∙ ap (λ (x : SeqEvent). keeping (st .samples) (told (heard x 0) d (record { common = quieted c (c .health); receiver = leftOut r reading count }))) e
+              ∙ ap (λ (x : Receiver). keeping (st .samples) (told (heard event 0) d (record { common = heardCommon (c .health) c; receiver = x }))) hv
+              ∙ ap (λ (x : SeqEvent). keeping (st .samples) (told (heard x 0) d (record { common = heardCommon (c .health) c; receiver = leftOut r reading count }))) e
               ∙ sym (pick-t _ _ _ refl)
-              ∙ ap (λ (x : SeqEvent). hear st (incoming reading later from octets waiting) d count x (missingBy rate x r reading later count waiting)) (sym e)
+              ∙ ap (λ (x : SeqEvent). hear st (incoming reading later from octets waiting) d count x (missingOf x (restartOf rate r reading later count waiting))) (sym e)
               ∙ heard-by from d;
         }
 
     pub heard-accepted : (h : Heard) (e : List Float) → (event ≡ Stale → ⊥)
-        → h ≡ acceptedAs (st .session) valid event (missingBy rate event r reading later count waiting) reading → e ≡ samplesOf octets
+        → h ≡ acceptedAs (st .session) valid event (missingOf event (restartOf rate r reading later count waiting)) reading → e ≡ samplesOf octets
         → Hears st reading later count octets waiting h e
-    unfolding hear reportOf accepted leftOut
+    unfolding hear accepted
     heard-accepted h e n hh hs =
-        let m = missingBy rate event r reading later count waiting in
+        let m = missingOf event (restartOf rate r reading later count waiting) in
         record {
           hears =
               λ from d.

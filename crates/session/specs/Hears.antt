@@ -4,33 +4,30 @@ use mathlib.Core.Path.{_≡_}
 use mathlib.Core.List.{List}
 use lib.Ieee.{Float}
 use Rattle.wire.specs.declared.sequence.SeqEvent.{SeqEvent}
-use Rattle.health.specs.declared.InputHealthCounters.{InputHealthCounters}
 use Rattle.account.specs.Answer.{heard, arrivalAnswer}
-use Rattle.account.specs.Parts.{with-health, with-consecutive-malformed}
+use Rattle.account.specs.Rules.{pendingAfter}
 use Rattle.account.specs.State.{State, keeping}
-use Rattle.account.specs.Hearing.{counted}
-use Rattle.account.specs.Arrival.{told, heardIq, heardStatus}
+use Rattle.account.specs.Hearing.{queued, counted}
+use Rattle.account.specs.Arrival.{told, heardCommon, heardIq, heardStatus}
 use Rattle.account.specs.declared.receiver.Receiver.{Receiver}
 use Rattle.account.specs.declared.sender.Sender.{Sender}
-use Rattle.account.specs.declared.session.Common.{Common}
 use Rattle.account.specs.declared.session.Session.{Session}
 use Rattle.account.specs.declared.answer.Arrived.{Arrived}
-use Rattle.receiving.specs.Hears.{reportOf, acceptedBy}
 use Rattle.session.specs.Gives.{Gives, incoming}
 use Rattle.session.specs.declared.hear.Heard.{Heard}
-
--- valid I/Q zeroes the consecutive malformed count
-abbrev pub quieted : Common → InputHealthCounters → Common
-quieted c h = with-consecutive-malformed (with-health c h) 0
 
 -- accepted as this event, which misses so much, of a receiver that heard it
 abbrev pub acceptedAs : Session → Receiver → SeqEvent → ℕ → ℕ → Heard
 acceptedAs s valid event missing now =
-    let report = reportOf (s .common .settings .«sample_rate_hz») event missing (s .receiver .pending) (s .common .health) in
+    let rate = s .common .settings .«sample_rate_hz» in
     record {
       event = event;
       missing = missing;
-      session = record { common = quieted (s .common) (counted event (s .common .health)); receiver = acceptedBy valid report now };
+      session =
+          record {
+            common = heardCommon (counted event (s .common .health)) (s .common);
+            receiver = queued valid now missing (pendingAfter rate event missing (s .receiver .pending));
+          };
     }
 
 -- whoever sent it and whatever packets are lent, none is written

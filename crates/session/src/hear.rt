@@ -6,8 +6,10 @@ ghost use lib.ListN.{length};
 ghost use Rattle.wire.specs.Answer.{gives};
 ghost use Rattle.wire.specs.Iq.{headerTold};
 ghost use Rattle.session.specs.Gives.{joined};
-ghost use Rattle.session.specs.Hears.{Hears, quieted, acceptedAs};
-ghost use Rattle.receiving.specs.Hears.{missingBy};
+ghost use Rattle.account.specs.Rules.{missingOf};
+ghost use Rattle.account.specs.Hearing.{restartOf};
+ghost use Rattle.account.specs.Arrival.{heardCommon};
+ghost use Rattle.session.specs.Hears.{Hears, acceptedAs};
 use account::receiver::Receiver;
 use account::session::Common;
 use account::session::Session;
@@ -26,7 +28,7 @@ pub(crate) struct Heard {
 
 // Valid I/Q zeroes the consecutive malformed count.
 fn note_heard(c: Common, health: InputHealthCounters) -> Common
-    ensures { λ r. ⌜ r ≡ quieted c health ⌝ }
+    ensures { λ r. ⌜ r ≡ heardCommon health c ⌝ }
 {
     let mut next = c;
     next.health = health;
@@ -45,7 +47,7 @@ fn accepted(
     waiting: &[u32],
 ) -> Heard
     requires { ⌜ length (now waiting) ≤ 8192 ⌝ }
-    ensures { λ r. ⌜ r ≡ acceptedAs s valid event (missingBy (s .common .settings .«sample_rate_hz») event (s .receiver) reading later count (now (waiting .entry))) reading ⌝ }
+    ensures { λ r. ⌜ r ≡ acceptedAs s valid event (missingOf event (restartOf (s .common .settings .«sample_rate_hz») (s .receiver) reading later count (now (waiting .entry)))) reading ⌝ }
 {
     let common = s.common;
     let receiver = s.receiver;

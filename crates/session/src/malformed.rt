@@ -3,9 +3,7 @@ ghost use Prim.Native.Nat.{ℕ, _+_, min};
 ghost use mathlib.Core.Path.{_≡_};
 ghost use mathlib.Core.List.{List};
 ghost use Rattle.account.specs.Answer.{arrivalAnswer};
-ghost use Rattle.health.specs.Counters.{countMalformed};
-ghost use Rattle.account.specs.Arrival.{heardMalformed};
-ghost use Rattle.account.specs.Parts.{with-health, with-consecutive-malformed};
+ghost use Rattle.account.specs.Arrival.{oneMore, heardMalformed};
 ghost use Rattle.session.specs.Gives.{Gives};
 use super::arrival::told;
 use account::answer::ArrivalAnswer;
@@ -26,7 +24,7 @@ fn one_more(n: u32) -> u32
 
 // One more malformed.
 fn note_malformed(c: Common) -> Common
-    ensures { λ r. ⌜ r ≡ with-health (with-consecutive-malformed c (min (c .«consecutive_malformed» + 1) 4294967295)) (countMalformed (c .health)) ⌝ }
+    ensures { λ r. ⌜ r ≡ oneMore c ⌝ }
 {
     let health = c.health;
     let counted = health.record_malformed();

@@ -24,6 +24,7 @@ use account::settings::SettingsAnswer;
 use attenuator::Controller;
 use attenuator::Timing;
 use health::InputHealthCounters;
+use receiving::queue::SAMPLES_PER_DATAGRAM;
 use stall::StallEpisode;
 use wire::alex::alex_words;
 use wire::board::BoardId;
@@ -121,7 +122,7 @@ fn fresh_receiver(s: Settings, now: u64) -> Receiver
     };
     Receiver {
         tracker,
-        queue_pos: 238,
+        queue_pos: SAMPLES_PER_DATAGRAM,
         reading,
         parked,
         pending,

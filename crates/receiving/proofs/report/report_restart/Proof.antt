@@ -4,7 +4,7 @@ use Prim.Native.Nat.{ℕ}
 use Rattle.wire.specs.declared.sequence.SeqEvent.the-variants.{Restart}
 use Rattle.account.specs.Rules.{pendingAfter}
 use Rattle.account.specs.Hearing.{counted}
-use Rattle.receiving.specs.Hears.{reportOf}
+use Rattle.receiving.specs.Report.{reportOf}
 use Rattle.receiving.proofs.Reports.{reported}
 use borrow.Author.Needs.{needs}
 use Rattle.receiving.proofs.report.report_restart.Statement.{statement}

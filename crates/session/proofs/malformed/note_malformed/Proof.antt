@@ -1,4 +1,5 @@
 -- `session::malformed::note_malformed` meets its contract. Assumes nothing.
+use Rattle.account.specs.Arrival.{oneMore}
 use borrow.Author.Needs.{needs}
 use Rattle.session.proofs.malformed.note_malformed.Statement.{statement}
 use Rattle.session.proofs.malformed.note_malformed.Tie as tie
@@ -10,6 +11,7 @@ one-more-requires : tie.Need-one-more-requires
 one-more-requires c κs = search needs
 
 returns : tie.Need-returns
+unfolding oneMore
 returns c = simp (c .one-more .ensures, c .before .record-malformed .ensures)
 
 pub note-malformed-spec : {M : Type 1} → statement M
