@@ -13,8 +13,6 @@ use Rattle.wire.specs.declared.sequence.SeqEvent.{SeqEvent}
 use Rattle.wire.specs.declared.sequence.SeqEvent.the-variants.{InOrder, Gap, Stale, Restart}
 use Rattle.account.specs.Answer.{Answer, done, heard}
 use Rattle.account.specs.Answer as Answer
-use Rattle.account.specs.Parts.{with-common, with-receiver}
-use Rattle.account.specs.Pass.{shut}
 use Rattle.account.specs.declared.session.Attenuation.{Attenuation}
 use Rattle.account.specs.declared.session.Attenuation.the-variants.{Off, On}
 use Rattle.account.specs.declared.session.Session.{Session}
@@ -234,21 +232,12 @@ module _ (s : Settings) (b : Book) (st : State) (n : ℕ) (h : Same s b st) (i :
     status-keeps (On controller) (gives (bits ∷ vs)) =
         still s b st n h (Arrival i d) _ (quiet false) refl refl refl (stepped-steady _ _ _ ∙ h .settings) refl refl refl refl refl refl
 
-    one-more-keeps : Mute (told (done Answer.malformed) d (with-common (later .session) (oneMore (later .session .common))))
-    unfolding oneMore
-    one-more-keeps =
-        still s b st n h (Arrival i d) (keeping (st .samples) (told (done Answer.malformed) d (with-common (later .session) (oneMore (later .session .common))))) (quiet false) refl refl refl (h .settings) refl refl refl refl refl refl
-
-    limit-keeps : Mute (told (done Answer.malformedLimit) d (with-receiver (with-common (later .session) (oneMore (later .session .common))) (shut (later .session .receiver))))
-    unfolding oneMore
-    limit-keeps =
-        still s b st n h (Arrival i d)
-        (keeping (st .samples) (told (done Answer.malformedLimit) d (with-receiver (with-common (later .session) (oneMore (later .session .common))) (shut (later .session .receiver)))))
-        (quiet false) refl refl refl (h .settings) refl refl refl refl refl refl
-
     malformed-keeps : Mute (heardMalformed (later .session) d)
-    unfolding heardMalformed
-    malformed-keeps = pick-either _ _ _ Mute (λ _. limit-keeps) (λ _. one-more-keeps)
+    unfolding heardMalformed oneMore
+    malformed-keeps =
+        pick-either _ _ _ Mute
+        (λ _. still s b st n h (Arrival i d) _ (quiet false) refl refl refl (h .settings) refl refl refl refl refl refl)
+        (λ _. still s b st n h (Arrival i d) _ (quiet false) refl refl refl (h .settings) refl refl refl refl refl refl)
 
   same-later : Same s b later
   same-later =
