@@ -1,6 +1,5 @@
 // What a session's calls told, as a word, a value and a digest, with the session after it. A refusal's word is 100 and its number.
 ghost use Prim.Native.Nat.{_≤_};
-ghost use lib.ListN.{length};
 use super::packet_cases::bits_of;
 use account::answer::BeginAnswer;
 use account::answer::CloseAnswer;

@@ -1,12 +1,37 @@
--- A receiver whose read closes: after a Take, and at a soft stall. Assumes nothing.
+-- A receiver whose read opens, and one whose read closes: after a Take, and at a soft stall. Assumes nothing.
 use Prim.Native.Nat.{ℕ, _+_}
-use mathlib.Core.Path.{_≡_, refl, ap, _∙_}
+use mathlib.Core.Path.{_≡_, ap, _∙_}
 use Rattle.stall.specs.Episode.{delivered, reported}
 use Rattle.stall.specs.declared.StallEpisode.{StallEpisode}
+use Rattle.account.specs.Begin.{orAt, begunBy}
 use Rattle.account.specs.Pass.{shut}
+use Rattle.account.specs.Rules.{begun}
 use Rattle.account.specs.Take.{handed}
 use Rattle.account.specs.Parts.{with-stall}
+use Rattle.account.specs.declared.receiver.Anchor.{Anchor}
 use Rattle.account.specs.declared.receiver.Receiver.{Receiver}
+use Rattle.account.specs.declared.receiver.Window.{Window}
+
+-- a read opens with this anchor and this window
+abbrev openedWith : Receiver → Anchor → Window → Receiver
+openedWith r anchor window =
+    record {
+      tracker = r .tracker;
+      «queue_pos» = r .«queue_pos»;
+      reading = record { «wait_entered» = anchor; entered = anchor };
+      parked = record { window = window };
+      pending = r .pending;
+      «last_valid_iq» = r .«last_valid_iq»;
+      «last_accepted_iq» = r .«last_accepted_iq»;
+      «read_returned» = r .«read_returned»;
+      stall = r .stall;
+    }
+
+pub begun-so : (r : Receiver) (size now : ℕ) (anchor : Anchor) (window : Window) → anchor ≡ orAt (r .reading .«wait_entered») now
+    → window ≡ begun size (r .«read_returned») (r .parked .window) now → openedWith r anchor window ≡ begunBy size r now
+unfolding begunBy
+begun-so r size now anchor window ha hw =
+    ap (λ (x : Anchor). openedWith r x window) ha ∙ ap (openedWith r (orAt (r .reading .«wait_entered») now)) hw
 
 -- n pairs more are handed out, of a receiver whose read is closed
 abbrev takenFrom : Receiver → ℕ → ℕ → ℕ → StallEpisode → Receiver

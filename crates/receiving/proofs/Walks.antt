@@ -1,13 +1,11 @@
 -- The walk over the waiting numbers, one turn of the loop, and what it leaves of a restart's time. Assumes nothing.
 use Prim.Native.Nat.{ℕ, _+_, _-_, _≤_, _<_}
 use mathlib.Core.Path.{_≡_, sym, ap, _∙_}
-use mathlib.Core.List.{List, [], _∷_}
+use mathlib.Core.List.{List, _∷_}
 use lib.ListN.{length, getD, drop, drop-of-length-le}
 use lib.Seq.{drop-cons}
 use lib.Ieee.{Float}
 use native.Mathlib.Numerals.{add-one}
-use native.Mathlib.Nat.{add-zero}
-use native.Mathlib.Omega.{arith}
 use Rattle.double.specs.Stream.{jumpLimit, coveredTime}
 use Rattle.wire.specs.Sequence.{observed}
 use Rattle.wire.specs.declared.sequence.Observed.{Observed}

@@ -1,11 +1,10 @@
 -- Packets sent one after another: room, streams and octets, step by step. Assumes nothing.
-use Prim.Native.Nat.{ℕ, zero, suc, _+_, _-_, _%_, _^_, _≤_, _<_}
+use Prim.Native.Nat.{ℕ, suc, _+_, _-_, _%_, _^_, _≤_, _<_}
 use mathlib.Core.Path.{_≡_, refl, sym, ap, _∙_, subst}
 use mathlib.Core.Bool.{Bool, true, false}
-use mathlib.Core.List.{List, [], _∷_, _++_, append-assoc, append-nil}
-use lib.ListN.{length, take, drop, set, getD, replicate, length-append, length-set}
+use mathlib.Core.List.{List, [], _∷_, _++_, append-nil}
+use lib.ListN.{length, take, drop, set, getD, replicate, length-append}
 use lib.Seq.{set-at, append-snoc}
-use native.Mathlib.Nat.{zero-add}
 use native.Mathlib.Omega.{arith}
 use borrow.Author.Tests.{le-ltb}
 use Rattle.octets.proofs.Picks.{pick-t, pick-f}
@@ -37,19 +36,25 @@ unfolding listing
 listing-count s [] = omega arith
 listing-count s (k ∷ a) = listing-count (appended s k) a ∙ omega arith
 
+-- the code's list, by its places and its count
+streams-as : (s : Streams) (l : List ℕ) → s .offsets ≡ l ++ replicate (5 - length l) 0 → s .count ≡ length l → s ≡ streamsAs l
+unfolding streamsAs
+streams-as s l o n =
+    ap (λ (x : List ℕ). record { offsets = x; count = s .count }) o
+    ∙ ap (λ (j : ℕ). record { offsets = l ++ replicate (5 - length l) 0; count = j }) n
+
 -- one more, behind those that are listed
 appended-as : (l : List ℕ) (k : ℕ) → length l < 5 → appended (streamsAs l) k ≡ streamsAs (l ++ (k ∷ []))
 unfolding streamsAs
 appended-as l k h =
     let n : 5 - length l ≡ suc (5 - suc (length l)) = omega arith in
     let m : length (l ++ (k ∷ [])) ≡ suc (length l) = length-append l (k ∷ []) ∙ omega arith in
-    let e : set (l ++ replicate (5 - length l) 0) (length l) k ≡ (l ++ (k ∷ [])) ++ replicate (5 - length (l ++ (k ∷ []))) 0 =
-    ap (λ (j : ℕ). set (l ++ replicate j 0) (length l) k) n
+    streams-as (appended (streamsAs l) k) (l ++ (k ∷ []))
+    (ap (λ (j : ℕ). set (l ++ replicate j 0) (length l) k) n
     ∙ set-at l 0 (replicate (5 - suc (length l)) 0) k (length l) refl
     ∙ sym (append-snoc l k (replicate (5 - suc (length l)) 0))
-    ∙ ap (λ (j : ℕ). (l ++ (k ∷ [])) ++ replicate (5 - j) 0) (sym m) in
-    ap (λ (o : List ℕ). record { offsets = o; count = length l + 1 }) e
-    ∙ ap (λ (j : ℕ). record { offsets = (l ++ (k ∷ [])) ++ replicate (5 - length (l ++ (k ∷ []))) 0; count = j }) (omega (arith, m))
+    ∙ ap (λ (j : ℕ). (l ++ (k ∷ [])) ++ replicate (5 - j) 0) (sym m))
+    (omega (arith, m))
 
 listing-as : (l a : List ℕ) → length l + length a ≤ 5 → listing (streamsAs l) a ≡ streamsAs (l ++ a)
 unfolding listing

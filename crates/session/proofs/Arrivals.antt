@@ -1,21 +1,24 @@
--- Arrival: its rows in order, and a status packet's and a malformed datagram's answers. Assumes nothing.
+-- Arrival: its rows in order, then what it is routed as, and a status packet's and a malformed datagram's answers. Assumes nothing.
 use Prim.Native.Nat.{ℕ, _≤_, _<_}
-use mathlib.Core.Path.{_≡_, refl, sym, ap, _∙_}
+use mathlib.Core.Path.{_≡_, sym, ap, _∙_}
 use mathlib.Core.Bool.{Bool, true, false}
 use mathlib.Core.List.{List, [], _∷_}
 use lib.ListN.{length}
 use lib.Dec.{leb}
+use lib.Ieee.{Float}
 use borrow.Author.Tests.{lt-ltb, le-ltb, le-leb, lt-leb}
 use Rattle.octets.proofs.Picks.{pick-t, pick-f}
-use Rattle.wire.specs.Answer.{Told, gives}
+use Rattle.wire.specs.Answer.{gives}
+use Rattle.wire.specs.Iq.{headerTold}
 use Rattle.wire.specs.Status.{overloadTold, overloaded, overloadAnswer}
 use Rattle.wire.specs.declared.status.OverloadBits.{OverloadBits}
 use Rattle.wire.specs.declared.status.OverloadBits.the-variants.{Bits, NoBits}
 use Rattle.attenuator.specs.Controller as Controller
 use Rattle.attenuator.specs.declared.Controller.{Controller}
-use Rattle.account.specs.Answer.{Answer, done, ignored, status, malformed, malformedLimit}
-use Rattle.account.specs.Host.{Incoming, Step}
-use Rattle.account.specs.State.{State, waits, notReading, fell, refuse}
+use Rattle.account.specs.Answer.{done, heard, ignored, status, malformed, malformedLimit}
+use Rattle.account.specs.Host.{Incoming}
+use Rattle.account.specs.Routing.{routed}
+use Rattle.account.specs.State.{State, waits, notReading, fell, refuse, keeping}
 use Rattle.account.specs.Sending.{stepped, wrote}
 use Rattle.account.specs.Pass.{shut}
 use Rattle.account.specs.Parts.{with-common, with-receiver}
@@ -24,7 +27,15 @@ use Rattle.account.specs.declared.receiver.Receiver.{Receiver}
 use Rattle.account.specs.declared.session.Attenuation.{Attenuation}
 use Rattle.account.specs.declared.session.Attenuation.the-variants.{Off, On}
 use Rattle.account.specs.declared.session.Common.{Common}
+use Rattle.account.specs.declared.sender.Sender.{Sender}
 use Rattle.account.specs.declared.session.Session.{Session}
+use Rattle.session.specs.Gives.{incoming, arrivedBy}
+use Rattle.session.specs.Hears.{Hears}
+use Rattle.session.specs.Route.{routeOf}
+use Rattle.session.specs.declared.hear.Heard.{Heard}
+use Rattle.session.specs.declared.route.Route.{Route}
+use Rattle.session.specs.declared.route.Route.the-variants.{Iq}
+use Rattle.session.proofs.Routes.{right-header}
 
 -- ---- the rows
 
@@ -67,6 +78,24 @@ module _ (st : State) (i : Incoming) (d : List ℕ) where
             no-row h =
                 pick-f _ _ _ reading ∙ pick-f _ _ _ on ∙ pick-f _ _ _ empty ∙ pick-f _ _ _ (le-ltb (i .later) (i .now) later)
                 ∙ pick-f _ _ _ (le-ltb 8192 (length (i .waiting)) few) ∙ pick-f _ _ _ (le-ltb (length d) 1444 h)
+
+-- ---- by what the code routed it as
+
+module _ (st : State) (reading later : ℕ) (from : Sender) (octets waiting d : List ℕ) (r : Route)
+    (h : routeOf r ≡ routed (st .session .common .settings .«radio_ip») (st .session .common .settings .port) from octets) where
+  abbrev i : Incoming
+  i = incoming reading later from octets waiting
+
+  pub by-route : (k : Route) → r ≡ k → arrivedBy st i d ≡ arrived st i d (routeOf k)
+  by-route k e = ap (arrived st i d) (sym h ∙ ap routeOf e)
+
+  pub iq-header : (count : ℕ) → r ≡ Iq count → headerTold octets ≡ gives (count ∷ [])
+  iq-header count k = sym (right-header count octets _ _ from (sym (ap routeOf k) ∙ h))
+
+  pub by-iq : (count : ℕ) (q : Heard) (e : List Float) → r ≡ Iq count → Hears st reading later count octets waiting q e
+      → arrivedBy st i d ≡ keeping e (told (heard (q .event) (q .missing)) d (q .session))
+  unfolding arrived
+  by-iq count q e k g = by-route (Iq count) k ∙ sym (g .hears from d)
 
 -- ---- a status packet
 

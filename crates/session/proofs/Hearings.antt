@@ -1,14 +1,11 @@
 -- A valid I/Q datagram, from the parts that the code makes of it. Assumes nothing.
-use Prim.Native.Nat.{ℕ, _≤_}
+use Prim.Native.Nat.{ℕ}
 use mathlib.Core.Path.{_≡_, refl, sym, ap, _∙_}
-use mathlib.Core.Bool.{Bool, true, false}
+use mathlib.Core.Bool.{false}
 use mathlib.Core.List.{List, [], _∷_, _++_, append-nil}
-use lib.ListN.{length, drop, drop-of-length-le}
+use lib.ListN.{length, drop-of-length-le}
 use lib.Ieee.{Float}
 use native.Mathlib.Omega.{arith}
-use Rattle.octets.specs.Pick.{pick}
-use Rattle.octets.specs.Table.{tab}
-use Rattle.octets.specs.Written.{written}
 use Rattle.octets.proofs.Picks.{pick-t, pick-f}
 use Rattle.octets.proofs.Tables.{length-tab}
 use Rattle.octets.proofs.Writes.{written-front}
@@ -20,7 +17,6 @@ use Rattle.wire.specs.declared.sequence.SeqEvent.the-variants.{InOrder, Gap, St
 use Rattle.wire.proofs.Headers.{parsed-samples}
 use Rattle.account.specs.Answer.{heard}
 use Rattle.account.specs.Rules.{missingOf, isStale}
-use Rattle.account.specs.Host.{Incoming, Step}
 use Rattle.account.specs.State.{State, keeping}
 use Rattle.account.specs.Hearing.{eventOf, restartOf, leftOut, queued, accepted, counted}
 use Rattle.account.specs.Arrival.{told, heardCommon, hear, heardAs, heardIq}
@@ -31,6 +27,7 @@ use Rattle.account.specs.declared.session.Session.{Session}
 use Rattle.session.specs.Gives.{incoming}
 use Rattle.receiving.specs.Report.{reportOf}
 use Rattle.session.specs.Hears.{acceptedAs, Hears}
+use Rattle.receiving.specs.declared.hear.Judged.{Judged}
 use Rattle.receiving.specs.declared.report.Report.{Report}
 use Rattle.session.specs.declared.hear.Heard.{Heard}
 
@@ -64,7 +61,7 @@ accepted-so s valid event missing now report common after hr hc ha =
     (λ (x : Report). record { event = event; missing = x .missing; session = record { common = heardCommon (x .health) (s .common); receiver = queued valid now (x .missing) (x .pending) } })
     hr
 
-module _ (st : State) (reading later count : ℕ) (octets waiting : List ℕ) (event : SeqEvent) (valid : Receiver) where
+module _ (st : State) (reading later count : ℕ) (octets waiting : List ℕ) where
   abbrev rate : Float
   rate = st .session .common .settings .«sample_rate_hz»
 
@@ -74,13 +71,22 @@ module _ (st : State) (reading later count : ℕ) (octets waiting : List ℕ) (e
   abbrev c : Common
   c = st .session .common
 
-  module _ (he : event ≡ eventOf rate r reading count) (hv : valid ≡ leftOut r reading count) where
-    -- what is heard, by the event that the code told
+  -- the event that the code judged it as, and the receiver that heard it
+  module _ (j : Judged) (hj : j ≡ record { event = eventOf rate r reading count; receiver = leftOut r reading count }) where
+    abbrev event : SeqEvent
+    event = j .event
+
+    abbrev valid : Receiver
+    valid = j .receiver
+
+    hv : valid ≡ leftOut r reading count
+    hv = ap (λ (x : Judged). x .receiver) hj
+
     heard-by : (from : Sender) (d : List ℕ)
         → hear st (incoming reading later from octets waiting) d count event (missingOf event (restartOf rate r reading later count waiting))
         ≡ heardIq st (incoming reading later from octets waiting) d count
     unfolding heardIq heardAs
-    heard-by from d = ap (heardAs st (incoming reading later from octets waiting) d count) he
+    heard-by from d = ap (λ (x : Judged). heardAs st (incoming reading later from octets waiting) d count (x .event)) hj
 
     pub heard-stale : (common : Common) → event ≡ Stale → common ≡ heardCommon (c .health) c
         → Hears st reading later count octets waiting (record { event = event; missing = 0; session = record { common = common; receiver = valid } }) (st .samples)

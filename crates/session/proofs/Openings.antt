@@ -21,7 +21,6 @@ use Rattle.account.specs.declared.settings.Settings.{Settings}
 use Rattle.account.specs.declared.settings.SettingsAnswer.{SettingsAnswer}
 use Rattle.account.specs.declared.settings.SettingsAnswer.the-variants.{Accepted, DdcCount, CenterCount, Rate, Center, CenterTooHigh, Port}
 use Rattle.account.specs.declared.session.Attenuation.{Attenuation}
-use Rattle.account.specs.declared.session.Common.{Common}
 use Rattle.account.specs.declared.session.Session.{Session}
 use Rattle.account.specs.declared.session.Tuning.{Tuning}
 use Rattle.session.specs.Gives.{Opens}

@@ -1,13 +1,12 @@
 -- Pass and Close: which of their answers, by the tests that the code makes. Assumes nothing.
 use Prim.Native.Nat.{ℕ, _-_, _≤_, _<_}
-use mathlib.Core.Path.{_≡_, refl, sym, ap, _∙_}
+use mathlib.Core.Path.{_≡_, refl, ap, _∙_}
 use mathlib.Core.Bool.{true, false}
 use mathlib.Core.List.{List, []}
 use Rattle.octets.specs.Written.{written}
 use Rattle.octets.proofs.Picks.{pick-t, pick-f}
 use Rattle.stall.specs.Episode.{isDue}
 use Rattle.account.specs.Answer.{done, ready, sent, closed}
-use Rattle.account.specs.Host.{Step}
 use Rattle.account.specs.State.{waits, quietSince, replied}
 use Rattle.account.specs.Sending.{duePackets, stopPackets, wrote}
 use Rattle.account.specs.Stream.{streamsAs}

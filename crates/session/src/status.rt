@@ -1,6 +1,5 @@
 // A status packet: with attenuation on, the controller hears its overload bit.
-ghost use Prim.Native.Nat.{ℕ, _≤_};
-ghost use mathlib.Core.List.{List};
+ghost use Prim.Native.Nat.{_≤_};
 ghost use lib.ListN.{length};
 ghost use Rattle.account.specs.Answer.{arrivalAnswer, done, status};
 ghost use Rattle.account.specs.Sending.{wrote};

@@ -1,6 +1,7 @@
 -- `receiving::elapsed::capped` meets its contract. Assumes nothing.
 use mathlib.Core.Path.{subst}
 use mathlib.Core.List.{[], _∷_}
+use native.Mathlib.Omega.{arith}
 use types.Run.{OneOf, miss}
 use denote.Enum.Declared.{tagOf}
 use Rattle.wire.proofs.sequence.SeqEvent.{the-type}
@@ -22,7 +23,7 @@ cast-if1 : tie.Need-cast-if1
 cast-if1 c = search needs
 
 returns-2 : tie.Need-returns-2
-returns-2 c = let a = c .before .before .before .before .args in capped-within (a .limit) (a .event) _ (c .before .before .event .given .1) (c .if1 .taken)
+returns-2 c = let a = c .before .before .before .before .args in capped-within (a .limit) (a .event) _ (c .before .before .event .given .1) (omega (arith, c .if1 .taken))
 
 returns-3 : tie.Need-returns-3
 returns-3 c = let a = c .before .before .before .before .args in capped-over (a .limit) (a .event) _ (c .before .before .event .given .1) (c .if1 .left)

@@ -1,5 +1,5 @@
 -- `receiving::read::begun_by` meets its contract: the anchor and the window are those of its two callees. Assumes nothing.
-use Rattle.account.specs.Begin.{begunBy}
+use Rattle.receiving.proofs.Receivers.{begun-so}
 use borrow.Author.Needs.{needs}
 use Rattle.receiving.proofs.read.begun_by.Statement.{statement}
 use Rattle.receiving.proofs.read.begun_by.Tie as tie
@@ -11,8 +11,7 @@ begun-requires : tie.Need-begun-requires
 begun-requires c κs = search needs
 
 returns : tie.Need-returns
-unfolding begunBy
-returns c = simp (c .begun .ensures, c .before .before .or-at .ensures)
+returns c = let a = c .before .before .before .before .args in begun-so (a .r) (a .size) (a .now) _ _ (c .before .before .or-at .ensures) (c .begun .ensures)
 
 pub begun-by-spec : {M : Type 1} → statement M
 begun-by-spec = tie.close (tie.spec or-at-requires begun-requires returns)

@@ -4,7 +4,6 @@ use Rattle.attenuator.specs.declared.AttenuationStep.{AttenuationStep}
 use Rattle.account.specs.Sending as Sending
 use Rattle.account.specs.Parts.{with-attenuator}
 use Rattle.account.specs.declared.session.Attenuation.the-variants.{On}
-use Rattle.account.specs.declared.session.Common.{Common}
 use Rattle.sending.proofs.Progresses.{sends-as, sends-set, sends-from}
 use borrow.Author.Needs.{needs}
 use Rattle.sending.proofs.keepalive.apply_step.Statement.{statement}

@@ -6,8 +6,6 @@ use Rattle.account.specs.declared.stream.Stream.the-variants.{RxSpecific, TxSpe
 use Rattle.account.proofs.Room.{send-within}
 use Rattle.account.proofs.Tests.{due, not-due}
 use Rattle.sending.proofs.Progresses.{room-after, sends-due, sends-idle, sends-then, sends-from}
-use native.Mathlib.Omega.{arith}
-use Rattle.account.proofs.Room.{send-within, packet-size}
 use borrow.Author.Needs.{needs}
 use Rattle.sending.proofs.keepalive.rx_tx_specific_if_due.Statement.{statement}
 use Rattle.sending.proofs.keepalive.rx_tx_specific_if_due.Tie as tie

@@ -1,5 +1,8 @@
 -- `sending::keepalive::send_high_priority` meets its contract. Assumes nothing.
+use mathlib.Core.Bool.{true}
 use Rattle.account.specs.Sending as Sending
+use Rattle.account.specs.Parts.{with-clocks, with-high-priority}
+use Rattle.account.specs.declared.stream.Stream.the-variants.{HighPriority}
 use Rattle.sending.proofs.Progresses.{sends-from}
 use borrow.Author.Needs.{needs}
 use Rattle.sending.proofs.keepalive.send_high_priority.Statement.{statement}
@@ -13,7 +16,9 @@ same-length c = search needs
 
 returns : tie.Need-returns
 unfolding Sending.sendHigh
-returns c = let a = c .before .before .before .before .before .before .args in sends-from (Sending.sendHigh (a .reading) (a .p .common)) (a .p) _ _ _ _ (c .before .before .send .ensures)
+returns c = let a = c .before .before .before .before .before .before .args in
+    let after = with-clocks (a .p .common) (with-high-priority (a .p .common .clocks) (a .reading)) in
+    sends-from (Sending.send HighPriority true after) (a .p) after _ _ _ (c .before .before .send .ensures)
 
 pub send-high-priority-spec : {M : Type 1} → statement M
 send-high-priority-spec = tie.close (tie.spec send-requires same-length returns)

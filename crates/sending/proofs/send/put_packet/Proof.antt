@@ -74,7 +74,7 @@ unfolding Sending.packetOf
 returns-4 c =
     let a = c .before .before .before .before .before .before .before .before .before .before .before .args in
     put-as (a .stream) HighPriority (a .run) (a .t1) _ _ _ (c .before .before .before .before .before .before .enum-told4 .given .1) (c .before .before .before .before .before .before .before .before .before .before .before .pre)
-    (at-level _ (a .run) _ _ _ _ _ _ _ _ (c .before .before .before .before .before .before .before .before .level .ensures) (c .before .before .high-priority-packet .ensures))
+    (at-level (Sending.countOf HighPriority (a .t1)) (a .run) (a .t1 .tuning .«phase_word») (a .t1 .tuning .alex .alex0) (a .t1 .tuning .alex .alex1) _ _ _ _ _ (c .before .before .before .before .before .before .before .before .level .ensures) (c .before .before .high-priority-packet .ensures))
 
 pub put-packet-spec : {M : Type 1} → statement M
 put-packet-spec =

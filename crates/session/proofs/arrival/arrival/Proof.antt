@@ -1,4 +1,5 @@
 -- `session::arrival::arrival` meets its contract: six rows, then the rest. Assumes nothing.
+use native.Mathlib.Omega.{arith}
 use borrow.Author.Needs.{needs}
 use Rattle.account.proofs.Tests.{was}
 use Rattle.session.specs.Gives.{joined, incoming}
@@ -63,7 +64,7 @@ returns-6 : tie.Need-returns-6
 returns-6 c = let a = c .before .before .before .before .before .before .before .before .before .before .before .before .before .before .args in
     arrival-told (a .s) (a .packets .now) (a .samples .now) _ NoRoom _ (c .told6 .ensures)
     (row-15 (joined (a .s) (a .samples .now)) (incoming (a .reading) (a .later) (a .from) (a .datagram .now) (a .waiting .now)) (a .packets .now)
-    (was (c .before .before .before .before .before .before .before .before .before .before .not-reading .ensures) (c .before .before .before .before .before .before .before .before .before .if1 .left)) (was (c .before .before .before .before .before .before .before .before .fell .ensures) (c .before .before .before .before .before .before .before .if2 .left)) (was (c .before .before .before .before .before .waits .ensures) (c .before .before .before .before .if3 .left)) (c .before .before .before .if4 .left) (c .before .before .if5 .left) (c .before .if6 .taken))
+    (was (c .before .before .before .before .before .before .before .before .before .before .not-reading .ensures) (c .before .before .before .before .before .before .before .before .before .if1 .left)) (was (c .before .before .before .before .before .before .before .before .fell .ensures) (c .before .before .before .before .before .before .before .if2 .left)) (was (c .before .before .before .before .before .waits .ensures) (c .before .before .before .before .if3 .left)) (c .before .before .before .if4 .left) (c .before .before .if5 .left) (omega (arith, c .before .if6 .taken)))
 
 arrived-requires : tie.Need-arrived-requires
 arrived-requires c κs = (c .before .before .before .before .if5 .left, c .before .before .before .if6 .left)

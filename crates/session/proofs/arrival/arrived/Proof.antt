@@ -1,10 +1,9 @@
 -- `session::arrival::arrived` meets its contract: by what the arrival is. Assumes nothing.
-use mathlib.Core.Path.{sym, ap, _∙_}
 use Rattle.account.specs.Arrival as Arrival
-use Rattle.account.specs.declared.answer.ArrivalAnswer.the-variants.{Iq, Ignored}
-use Rattle.session.specs.Gives.{joined, incoming}
-use Rattle.session.specs.Route.{routeOf}
-use Rattle.session.proofs.Routes.{right-header}
+use Rattle.account.specs.declared.answer.ArrivalAnswer.the-variants as answer
+use Rattle.session.specs.Gives.{joined}
+use Rattle.session.specs.declared.route.Route.the-variants.{Status, Ignored, Malformed}
+use Rattle.session.proofs.Arrivals.{iq-header, by-route, by-iq}
 use Rattle.session.proofs.Givings.{arrival-told, gives-kept}
 use borrow.Author.Needs.{needs}
 use Rattle.session.proofs.arrival.arrived.Statement.{statement}
@@ -18,8 +17,8 @@ enum-known-kind c = search needs
 
 handle-iq-requires : tie.Need-handle-iq-requires
 handle-iq-requires c κs = let a = c .before .before .before .before .before .before .before .before .before .args in (
-  sym (right-header _ (a .datagram .now) (a .s .common .settings .«radio_ip») (a .s .common .settings .port) (a .from)
-      (sym (ap routeOf (c .before .before .kind .given .1)) ∙ c .before .before .before .before .routed .ensures)),
+  iq-header (joined (a .s) (a .samples .now)) (a .reading) (a .later) (a .from) (a .datagram .now) (a .waiting .now) (a .packets .now) _ (c .before .before .before .before .routed .ensures)
+      _ (c .before .before .kind .given .1),
   c .before .before .before .before .before .before .before .before .before .pre .0,
 )
 
@@ -45,11 +44,10 @@ malformed-requires : tie.Need-malformed-requires
 malformed-requires c κs = search needs
 
 returns : tie.Need-returns
-unfolding Arrival.arrived
 returns c = let a = c .before .before .before .before .before .before .before .before .before .before .before .before .args in
-    arrival-told _ (a .packets .now) _ _ (Iq _ _) _ (c .told .ensures)
-    (ap (Arrival.arrived (joined (a .s) (a .samples .now)) (incoming (a .reading) (a .later) (a .from) (a .datagram .now) (a .waiting .now)) (a .packets .now)) (sym (c .before .before .before .before .before .before .before .routed .ensures) ∙ ap routeOf (c .before .before .before .before .before .kind .given .1))
-    ∙ sym (c .before .before .handle-iq .ensures .hears (a .from) (a .packets .now)))
+    arrival-told _ (a .packets .now) _ _ (answer.Iq _ _) _ (c .told .ensures)
+    (by-iq (joined (a .s) (a .samples .now)) (a .reading) (a .later) (a .from) (a .datagram .now) (a .waiting .now) (a .packets .now) _ (c .before .before .before .before .before .before .before .routed .ensures)
+    _ _ _ (c .before .before .before .before .before .kind .given .1) (c .before .before .handle-iq .ensures))
 
 same-length : tie.Need-same-length
 same-length c = search needs
@@ -58,20 +56,23 @@ returns-2 : tie.Need-returns-2
 unfolding Arrival.arrived
 returns-2 c = let a = c .before .before .before .before .before .before .before .before .before .before .before .args in
     gives-kept _ _ _ _ (a .samples .now) _ _
-    (ap (Arrival.arrived (joined (a .s) (a .samples .now)) (incoming (a .reading) (a .later) (a .from) (a .datagram .now) (a .waiting .now)) (a .packets .now)) (sym (c .before .before .before .before .before .before .routed .ensures) ∙ ap routeOf (c .before .before .before .before .enum-told .given .1)))
+    (by-route (joined (a .s) (a .samples .now)) (a .reading) (a .later) (a .from) (a .datagram .now) (a .waiting .now) (a .packets .now) _ (c .before .before .before .before .before .before .routed .ensures)
+    Status (c .before .before .before .before .enum-told .given .1))
     (c .before .before .handle-status .ensures .hears (a .from) (a .waiting .now))
 
 returns-3 : tie.Need-returns-3
 unfolding Arrival.arrived
 returns-3 c = let a = c .before .before .before .before .before .before .before .before .args in
-    arrival-told (a .s) (a .packets .now) (a .samples .now) _ Ignored _ (c .told2 .ensures)
-    (ap (Arrival.arrived (joined (a .s) (a .samples .now)) (incoming (a .reading) (a .later) (a .from) (a .datagram .now) (a .waiting .now)) (a .packets .now)) (sym (c .before .before .before .routed .ensures) ∙ ap routeOf (c .before .enum-told2 .given .1)))
+    arrival-told (a .s) (a .packets .now) (a .samples .now) _ answer.Ignored _ (c .told2 .ensures)
+    (by-route (joined (a .s) (a .samples .now)) (a .reading) (a .later) (a .from) (a .datagram .now) (a .waiting .now) (a .packets .now) _ (c .before .before .before .routed .ensures)
+    Ignored (c .before .enum-told2 .given .1))
 
 returns-4 : tie.Need-returns-4
 unfolding Arrival.arrived
 returns-4 c = let a = c .before .before .before .before .before .before .before .before .args in
     gives-kept _ _ _ _ (a .samples .now) _ _
-    (ap (Arrival.arrived (joined (a .s) (a .samples .now)) (incoming (a .reading) (a .later) (a .from) (a .datagram .now) (a .waiting .now)) (a .packets .now)) (sym (c .before .before .before .routed .ensures) ∙ ap routeOf (c .before .enum-told3 .given .1)))
+    (by-route (joined (a .s) (a .samples .now)) (a .reading) (a .later) (a .from) (a .datagram .now) (a .waiting .now) (a .packets .now) _ (c .before .before .before .routed .ensures)
+    Malformed (c .before .enum-told3 .given .1))
     (c .malformed .ensures (a .packets .now))
 
 pub arrived-spec : {M : Type 1} → statement M

@@ -1,12 +1,11 @@
 -- `session::hear::handle_iq` meets its contract: the number is judged, then the samples are written. Assumes nothing.
-use mathlib.Core.Path.{_≡_, sym, ap, subst}
+use mathlib.Core.Path.{_≡_, sym, subst}
 use mathlib.Core.List.{[], _∷_}
 use lib.ListN.{length}
 use types.Run.{OneOf, miss}
 use denote.Enum.Declared.{tagOf}
 use Rattle.wire.proofs.sequence.SeqEvent.{the-type}
 use Rattle.wire.specs.declared.sequence.SeqEvent.{SeqEvent}
-use Rattle.receiving.specs.declared.hear.Judged.{Judged}
 use Rattle.session.specs.Gives.{joined}
 use Rattle.session.proofs.Hearings.{filled, heard-stale, heard-accepted}
 use borrow.Author.Needs.{needs}
@@ -28,8 +27,8 @@ accepted-requires c κs = search needs
 returns : tie.Need-returns
 returns c = let a = c .before .before .before .before .before .before .before .before .before .before .args in
     let n : length (a .samples .now) ≡ 476 = search needs in
-    heard-accepted (joined (a .s) (a .samples .now)) (a .reading) (a .later) (a .count) (a .datagram .now) (a .waiting .now) _ _
-    (ap (λ (x : Judged). x .event) (c .before .before .before .before .before .judge .ensures)) (ap (λ (x : Judged). x .receiver) (c .before .before .before .before .before .judge .ensures)) _ _
+    heard-accepted (joined (a .s) (a .samples .now)) (a .reading) (a .later) (a .count) (a .datagram .now) (a .waiting .now)
+    _ (c .before .before .before .before .before .judge .ensures) _ _
     (λ e. miss (0 ∷ 1 ∷ 3 ∷ []) 2 tt (subst (λ (x : SeqEvent). OneOf (0 ∷ 1 ∷ 3 ∷ []) (tagOf the-type x)) e (c .before .before .before .match .keys2))) (c .accepted .ensures)
     (filled (a .datagram .now) (a .samples .now) (a .count) _ _ (sym (c .before .before .before .before .before .before .before .before .before .before .pre .0)) n (c .before .parse-iq-datagram .ensures))
 
@@ -38,8 +37,8 @@ note-heard-requires c κs = search needs
 
 returns-2 : tie.Need-returns-2
 returns-2 c = let a = c .before .before .before .before .before .before .before .before .before .before .args in
-    heard-stale (joined (a .s) (a .samples .now)) (a .reading) (a .later) (a .count) (a .datagram .now) (a .waiting .now) _ _
-    (ap (λ (x : Judged). x .event) (c .before .before .before .before .before .judge .ensures)) (ap (λ (x : Judged). x .receiver) (c .before .before .before .before .before .judge .ensures)) _ (c .before .before .enum-told .given .1) (c .note-heard .ensures)
+    heard-stale (joined (a .s) (a .samples .now)) (a .reading) (a .later) (a .count) (a .datagram .now) (a .waiting .now)
+    _ (c .before .before .before .before .before .judge .ensures) _ (c .before .before .enum-told .given .1) (c .note-heard .ensures)
 
 pub handle-iq-spec : {M : Type 1} → statement M
 handle-iq-spec =

@@ -1,10 +1,8 @@
 -- `session::settings::validate_protocol2` meets its contract: the rows in order. Assumes nothing.
-use mathlib.Core.Path.{_≡_, sym, ap, _∙_}
+use mathlib.Core.Path.{_≡_, ap}
 use mathlib.Core.Bool.{true}
-use mathlib.Core.List.{[], _∷_}
 use Rattle.account.proofs.Tests.{was}
 use borrow.Author.Tests.{not-true, not-false}
-use Rattle.wire.specs.Answer.{gives}
 use Rattle.wire.specs.Rate.{isRate, khzOf, rateAnswer}
 use Rattle.wire.proofs.Rates.{given-khz, refused-rate}
 use Rattle.session.proofs.Settled.{row-1, row-2, row-3, row-4, row-5, row-6, no-row}

@@ -3,7 +3,6 @@ use Rattle.account.proofs.Tests.{was}
 use borrow.Author.Tests.{not-true, not-false}
 use lib.Ieee.{ofBits}
 use Rattle.session.proofs.Settled.{not-finite, above-zero, not-above}
-use Rattle.wire.specs.Centre.{wholeCentre}
 use borrow.Author.Needs.{needs}
 use Rattle.session.proofs.settings.whole_centre.Statement.{statement}
 use Rattle.session.proofs.settings.whole_centre.Tie as tie
