@@ -3,11 +3,13 @@ ghost use Prim.Native.Nat.{_≤_};
 ghost use lib.ListN.{length};
 use super::session_cases::Call;
 use super::session_told::Told;
+use super::session_told::Words;
 use super::session_told::listed;
 use super::session_told::packet_digest;
 use account::answer::ArrivalAnswer;
 use account::sender::Sender;
 use account::session::Session;
+use account::stream::Streams;
 use session::arrival::arrival;
 use wire::sequence::SeqEvent;
 
@@ -72,8 +74,19 @@ fn value(a: ArrivalAnswer, streams: u64) -> u64 {
     }
 }
 
+// The sender stands in the call; a status packet's octet is not its family.
+fn is_v6(c: Call) -> bool {
+    if c.kind == IQ {
+        return false;
+    }
+    if c.kind == STATUS {
+        return false;
+    }
+    c.octet == 1
+}
+
 fn sender(c: Call) -> Sender {
-    if c.octet == 1 {
+    if is_v6(c) {
         return Sender::V6;
     }
     Sender::V4 {
@@ -82,8 +95,19 @@ fn sender(c: Call) -> Sender {
     }
 }
 
-// No number waits.
-fn arrive(s: Session, samples: &mut [f32; 476], c: Call, from: Sender, datagram: &[u8]) -> Told {
+fn heard(a: ArrivalAnswer, l: Streams, packets: &[u8]) -> Words {
+    Words {
+        word: of_arrival(a),
+        value: value(a, listed(l)),
+        digest: packet_digest(l, packets),
+    }
+}
+
+// The first n octets of a datagram arrive, and no number waits.
+fn arrive(s: Session, samples: &mut [f32; 476], c: Call, datagram: &[u8; 1444], n: usize) -> Told
+    requires { ⌜ n ≤ 1444 ⌝ }
+{
+    let all = &datagram[..];
     let mut packets = [0u8; 1444];
     let waiting = [0u32; 1];
     let r = arrival(
@@ -91,40 +115,39 @@ fn arrive(s: Session, samples: &mut [f32; 476], c: Call, from: Sender, datagram:
         samples,
         c.now,
         c.later,
-        from,
-        datagram,
+        sender(c),
+        &all[0..n],
         &waiting[0..0],
         &mut packets,
     );
     let a = r.answer;
     let l = r.streams;
+    let words = heard(a, l, &packets);
     let session = r.session;
-    Told {
-        word: of_arrival(a),
-        value: value(a, listed(l)),
-        digest: packet_digest(l, &packets),
-        session,
-    }
+    Told { words, session }
 }
 
-// The sender of an I/Q datagram and of a status packet stands in the call; a status packet's octet is not its family.
-pub(crate) fn arrival_told(s: Session, samples: &mut [f32; 476], c: Call) -> Told {
-    let mut datagram = [0u8; 1444];
-    let from = Sender::V4 {
-        ip: c.ip,
-        port: c.port,
-    };
+// A call's datagram, and how many octets it has.
+fn put_datagram(p: &mut [u8; 1444], c: Call) -> usize
+    ensures { λ r. ⌜ r ≤ 1444 ⌝ }
+{
     if c.kind == IQ {
-        put_iq(&mut datagram, c.number);
-        return arrive(s, samples, c, from, &datagram);
+        put_iq(p, c.number);
+        return 1444;
     }
     if c.kind == STATUS {
-        datagram[5] = c.octet;
-        return arrive(s, samples, c, from, &datagram[0..60]);
+        p[5] = c.octet;
+        return 60;
     }
     let n = c.number as usize;
     if n < 1444 {
-        return arrive(s, samples, c, sender(c), &datagram[0..n]);
+        return n;
     }
-    arrive(s, samples, c, sender(c), &datagram)
+    1444
+}
+
+pub(crate) fn arrival_told(s: Session, samples: &mut [f32; 476], c: Call) -> Told {
+    let mut datagram = [0u8; 1444];
+    let n = put_datagram(&mut datagram, c);
+    arrive(s, samples, c, &datagram, n)
 }

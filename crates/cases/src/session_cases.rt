@@ -8,6 +8,7 @@ use super::attenuator_cases::wide;
 use super::double_cases::double_of;
 use super::session_arrivals::arrival_told;
 use super::session_told::Told;
+use super::session_told::Words;
 use super::session_told::begin_told;
 use super::session_told::close_told;
 use super::session_told::discontinuity_told;
@@ -16,9 +17,11 @@ use super::session_told::of_settings;
 use super::session_told::pass_told;
 use super::session_told::stalled_told;
 use super::session_told::take_told;
+use account::answer::Opened;
 use account::session::Session;
 use account::settings::AttenuationChoice;
 use account::settings::Settings;
+use account::settings::SettingsAnswer;
 use session::open::open;
 use wire::board::BoardId;
 use wire::board::board_info;
@@ -84,15 +87,6 @@ fn call_of(p: &[u8], at: usize) -> Call
     }
 }
 
-fn put_word(p: &mut [u8], at: usize, word: u8, value: u64)
-    requires { ⌜ at + 32 ≤ length (now p) ⌝ }
-{
-    octets::put_u32(p, at, wide(word) * 16777216);
-    octets::put_u32(p, at + 4, 0);
-    octets::put_u32(p, at + 8, (value / 4294967296) as u32);
-    octets::put_u32(p, at + 12, (value % 4294967296) as u32);
-}
-
 fn put_digest(p: &mut [u8], at: usize, digest: u32)
     requires { ⌜ at + 32 ≤ length (now p) ⌝ }
 {
@@ -100,6 +94,16 @@ fn put_digest(p: &mut [u8], at: usize, digest: u32)
     octets::put_u32(p, at + 20, 0);
     octets::put_u32(p, at + 24, 0);
     octets::put_u32(p, at + 28, 0);
+}
+
+fn put_words(p: &mut [u8], at: usize, w: Words)
+    requires { ⌜ at + 32 ≤ length (now p) ⌝ }
+{
+    octets::put_u32(p, at, wide(w.word) * 16777216);
+    octets::put_u32(p, at + 4, 0);
+    octets::put_u32(p, at + 8, (w.value / 4294967296) as u32);
+    octets::put_u32(p, at + 12, (w.value % 4294967296) as u32);
+    put_digest(p, at, w.digest);
 }
 
 fn called(s: Session, samples: &mut [f32; 476], c: Call) -> Told {
@@ -122,8 +126,8 @@ fn run_slot(s: Session, samples: &mut [f32; 476], p: &mut [u8], at: usize) -> Se
 {
     let c = call_of(p, at);
     let told = called(s, samples, c);
-    put_word(p, at, told.word, told.value);
-    put_digest(p, at, told.digest);
+    let words = told.words;
+    put_words(p, at, words);
     told.session
 }
 
@@ -139,16 +143,29 @@ fn calls(opened: Session, p: &mut [u8])
     }
 }
 
+// What Open answered stands at the front of the settings.
+fn put_head(p: &mut [u8], answer: SettingsAnswer)
+    requires { ⌜ 64 ≤ length (now p) ⌝ }
+{
+    octets::clear(p, HEAD);
+    octets::put_u32(p, 0, wide(of_settings(answer)) * 16777216);
+}
+
+fn opened(p: &[u8]) -> Opened
+    requires { ⌜ 64 ≤ length (now p) ⌝ }
+{
+    open(settings(p), reading(p, 0))
+}
+
 // No answer where there are no whole settings.
 pub(crate) fn answer(p: &mut [u8]) -> Answer {
     if p.len() < HEAD {
         return Answer::Nothing;
     }
-    let opened = open(settings(p), reading(p, 0));
-    let told = opened.answer;
-    let s = opened.session;
-    octets::clear(p, HEAD);
-    octets::put_u32(p, 0, wide(of_settings(told)) * 16777216);
+    let r = opened(p);
+    let told = r.answer;
+    put_head(p, told);
+    let s = r.session;
     calls(s, p);
     Answer::Octets
 }

@@ -1,4 +1,4 @@
-// What a session's calls told, as a word, a value and a digest, with the session after it. A refusal's word is 100 and its number.
+// What a session's calls told, as a word, a value and a digest, and the session after it. A refusal's word is 100 and its number.
 ghost use Prim.Native.Nat.{_≤_};
 use super::packet_cases::bits_of;
 use account::answer::BeginAnswer;
@@ -18,10 +18,14 @@ use session::drain::take_stalled;
 use session::pass::pass;
 use session::take::take;
 
-pub(crate) struct Told {
+pub(crate) struct Words {
     pub(crate) word: u8,
     pub(crate) value: u64,
     pub(crate) digest: u32,
+}
+
+pub(crate) struct Told {
+    pub(crate) words: Words,
     pub(crate) session: Session,
 }
 
@@ -142,16 +146,21 @@ fn of_begin(a: BeginAnswer) -> u8 {
     }
 }
 
+// A word alone.
+fn bare(word: u8) -> Words {
+    Words {
+        word,
+        value: 0,
+        digest: 0,
+    }
+}
+
 pub(crate) fn begin_told(s: Session, now: u64) -> Told {
     let r = begin(s, now);
     let a = r.answer;
+    let words = bare(of_begin(a));
     let session = r.session;
-    Told {
-        word: of_begin(a),
-        value: 0,
-        digest: 0,
-        session,
-    }
+    Told { words, session }
 }
 
 fn of_pass(a: PassAnswer) -> u8 {
@@ -166,18 +175,23 @@ fn of_pass(a: PassAnswer) -> u8 {
     }
 }
 
+// A word, with the streams that were written and their packets' digest.
+fn sent(word: u8, l: Streams, packets: &[u8]) -> Words {
+    Words {
+        word,
+        value: listed(l),
+        digest: packet_digest(l, packets),
+    }
+}
+
 pub(crate) fn pass_told(s: Session, now: u64) -> Told {
     let mut packets = [0u8; 4452];
     let r = pass(s, now, &mut packets);
     let a = r.answer;
     let l = r.streams;
+    let words = sent(of_pass(a), l, &packets);
     let session = r.session;
-    Told {
-        word: of_pass(a),
-        value: listed(l),
-        digest: packet_digest(l, &packets),
-        session,
-    }
+    Told { words, session }
 }
 
 fn of_take(a: TakeAnswer) -> u8 {
@@ -212,19 +226,23 @@ fn at_most(places: usize) -> usize
     if places < 1024 { places } else { 1024 }
 }
 
+fn took(a: TakeAnswer, buffer: &[f32; 1024]) -> Words {
+    Words {
+        word: of_take(a),
+        value: pairs(a) as u64,
+        digest: handed_digest(buffer, pairs(a)),
+    }
+}
+
 // Into a buffer of so many places, at most 1024.
 pub(crate) fn take_told(s: Session, samples: &[f32; 476], now: u64, places: usize) -> Told {
     let mut buffer = [0.0f32; 1024];
     let n = at_most(places);
     let r = take(s, samples, now, &mut buffer[0..n]);
     let a = r.answer;
+    let words = took(a, &buffer);
     let session = r.session;
-    Told {
-        word: of_take(a),
-        value: pairs(a) as u64,
-        digest: handed_digest(&buffer, pairs(a)),
-        session,
-    }
+    Told { words, session }
 }
 
 fn of_slot(slot: Slot) -> u8 {
@@ -238,15 +256,19 @@ fn held(slot: Slot) -> u64 {
     if let Slot::Holds(n) = slot { n } else { 0 }
 }
 
-fn drained(r: Drained) -> Told {
-    let slot = r.slot;
-    let session = r.session;
-    Told {
+fn of_held(slot: Slot) -> Words {
+    Words {
         word: of_slot(slot),
         value: held(slot),
         digest: 0,
-        session,
     }
+}
+
+fn drained(r: Drained) -> Told {
+    let slot = r.slot;
+    let words = of_held(slot);
+    let session = r.session;
+    Told { words, session }
 }
 
 pub(crate) fn missing_told(s: Session) -> Told {
@@ -257,15 +279,15 @@ pub(crate) fn discontinuity_told(s: Session) -> Told {
     drained(take_discontinuity(s))
 }
 
+fn of_flag(stalled: bool) -> u8 {
+    if stalled { 10 } else { 9 }
+}
+
 pub(crate) fn stalled_told(s: Session) -> Told {
     let r = take_stalled(s);
+    let words = bare(of_flag(r.stalled));
     let session = r.session;
-    Told {
-        word: if r.stalled { 10 } else { 9 },
-        value: 0,
-        digest: 0,
-        session,
-    }
+    Told { words, session }
 }
 
 fn of_close(a: CloseAnswer) -> u8 {
@@ -281,11 +303,7 @@ pub(crate) fn close_told(s: Session) -> Told {
     let r = close(s, &mut packets);
     let a = r.answer;
     let l = r.streams;
+    let words = sent(of_close(a), l, &packets);
     let session = r.session;
-    Told {
-        word: of_close(a),
-        value: listed(l),
-        digest: packet_digest(l, &packets),
-        session,
-    }
+    Told { words, session }
 }
