@@ -1,0 +1,96 @@
+-- What `carry_on` and `replay` return, from what their parts were promised. Assumes nothing.
+use Prim.Native.Nat.{ℕ, _%_, _/_}
+use mathlib.Core.Path.{_≡_, sym, ap, subst, _∙_}
+use mathlib.Core.Bool.{Bool, true, false, not}
+use mathlib.Core.List.{List}
+use lib.ListN.{length}
+use lib.Dec.{T}
+use lib.Ieee.{Float}
+use native.Mathlib.Omega.{arith}
+use borrow.Author.Tests.{eq-eqb, ne-eqb, not-true, not-false}
+use Rattle.octets.proofs.Picks.{pick-t, pick-f}
+use Rattle.account.specs.Settings.{settingsAnswer, isGiven, accepts}
+use Rattle.account.specs.Open.{opened}
+use Rattle.account.specs.State.{State}
+use Rattle.account.specs.Session.{openedWith}
+use Rattle.account.specs.declared.session.Session.{Session}
+use Rattle.account.specs.declared.settings.Settings.{Settings}
+use Rattle.account.specs.declared.settings.SettingsAnswer.{SettingsAnswer}
+use Rattle.session.specs.Gives.{Opens, joined}
+use Rattle.replay.specs.Encoding.{nothing}
+use Rattle.replay.specs.Runs.{Lent, checkFrom, toldIn, toldOf, isRan, untouched, carried, Carries, RunsAll}
+use Rattle.replay.specs.Replay.{replayed, Replays}
+use Rattle.replay.specs.declared.words.Amounts.{Amounts}
+use Rattle.replay.specs.declared.walk.Told.{Told}
+use Rattle.replay.specs.declared.walk.Told.the-variants.{Ran, NotOpened, Lengths}
+use Rattle.replay.proofs.Chunks.{ran-is, carries-runs, runs-account}
+
+-- ---- whether a list is run
+
+module _ (calls : List ℕ) (room : Amounts) (answers : ℕ) where
+  pub not-whole : (length calls % 8 ≡ 0 → ⊥) → Lengths ≡ toldIn calls room answers
+  unfolding toldIn
+  not-whole h = sym (pick-f _ _ _ (ne-eqb _ _ h))
+
+  pub not-as-many : length calls % 8 ≡ 0 → (answers ≡ length calls → ⊥) → Lengths ≡ toldIn calls room answers
+  unfolding toldIn
+  not-as-many h k = sym (pick-t _ _ _ (eq-eqb _ _ h) ∙ pick-f _ _ _ (ne-eqb _ _ k))
+
+  pub by-each : length calls % 8 ≡ 0 → answers ≡ length calls → (t : Told) → t ≡ checkFrom calls room (length calls / 8) 0 nothing → t ≡ toldIn calls room answers
+  unfolding toldIn
+  by-each h k t e = e ∙ sym (pick-t _ _ _ (eq-eqb _ _ h) ∙ pick-t _ _ _ (eq-eqb _ _ k))
+
+-- ---- carried on
+
+module _ (told : Told) (b : Bool) (st : State) (l : Lent) (answers₀ : List ℕ) (e : told ≡ toldOf l (length answers₀)) (h : b ≡ isRan told) where
+  pub ran-told : not b ≡ false → toldOf l (length answers₀) ≡ Ran
+  ran-told k = ran-is _ (ap isRan (sym e) ∙ sym h ∙ not-false _ k)
+
+  pub refused-list : not b ≡ true → Carries told st l answers₀ answers₀ (l .packets) (l .places) st
+  unfolding carried
+  refused-list k =
+      let f : isRan (toldOf l (length answers₀)) ≡ false = ap isRan (sym e) ∙ sym h ∙ not-true _ k in
+      record { leaves = ap (λ (t : Told). untouched t st l answers₀) e ∙ sym (pick-f _ _ _ f) }
+
+  pub run-list : not b ≡ false → (answers packets : List ℕ) (places : List Float) (st′ : State) → RunsAll st l answers packets places st′
+      → Carries told st l answers₀ answers packets places st′
+  unfolding carried
+  run-list k answers packets places st′ r =
+      let g = ran-told k in
+      record {
+        leaves =
+            ap (λ (t : Told). record { told = t; answers = answers; packets = packets; places = places; state = st′ }) (e ∙ g)
+            ∙ r .leaves
+            ∙ sym (pick-t _ _ _ (ap isRan g));
+      }
+
+-- ---- from a session just opened
+
+module _ (s : Settings) (opening : ℕ) (answer : SettingsAnswer) (x : Session) (b : Bool) (samples : List Float) (l : Lent) (answers₀ : List ℕ)
+    (o : Opens (record { answer = answer; session = x }) s opening) (h : b ≡ isGiven (settingsAnswer answer)) where
+  accepts-is : (v : Bool) → b ≡ v → accepts s ≡ v
+  unfolding accepts
+  accepts-is v k = ap isGiven (sym (o .answers)) ∙ sym h ∙ k
+
+  pub not-opened : not b ≡ true → Replays s opening answer NotOpened samples l answers₀ answers₀ (l .packets) (l .places) (joined x samples)
+  unfolding replayed opened
+  not-opened k =
+      let f = accepts-is false (not-true _ k) in
+      record {
+        opens = o .answers;
+        leaves = ap (λ (t : Session). untouched NotOpened (joined t samples) l answers₀) (o .leaves ∙ pick-f _ _ _ f) ∙ sym (pick-f _ _ _ f);
+        account = λ e numbers. let z : _≡_ {A = ℕ} 0 1 = cc in absurd (omega arith);
+      }
+
+  pub replays : not b ≡ false → length samples ≡ 476 → (told : Told) (answers packets : List ℕ) (places : List Float) (st : State)
+      → Carries told (joined x samples) l answers₀ answers packets places st → Replays s opening answer told samples l answers₀ answers packets places st
+  unfolding replayed
+  replays k size told answers packets places st c =
+      let f = accepts-is true (not-false _ k) in
+      let d : Carries told (openedWith samples s opening) l answers₀ answers packets places st =
+      subst (λ (t : Session). Carries told (joined t samples) l answers₀ answers packets places st) (o .leaves) c in
+      record {
+        opens = o .answers;
+        leaves = d .leaves ∙ sym (pick-t _ _ _ f);
+        account = λ e. runs-account s opening samples _ _ st (subst T (sym f) tt) size (carries-runs told (openedWith samples s opening) l answers₀ answers packets places st d e);
+      }
