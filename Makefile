@@ -4,8 +4,9 @@ RT := $(shell command -v rt 2>/dev/null || { [ -n "$$RATTLE_HOME" ] && echo "$$R
 MANTA_SRC ?= $(wildcard ../shared/docs/src)
 export MANTA_SRC
 
-.PHONY: test vectors oracle changes bench
-# Proves every crate from nothing, tries every must-fail edit, runs every program, and then the oracle's own tests.
+.PHONY: test vectors oracle compare changes bench
+# Proves every crate from nothing, tries every must-fail edit, runs every program, and then the oracle's own tests and the
+# comparison of the program `calls` with the Rust.
 test:
 	@[ -n "$(RT)" ] || { echo "make test: no rt on the PATH, and RATTLE_HOME is not set" >&2; exit 1; }
 	@tools/test "$(RT)"
@@ -20,6 +21,16 @@ vectors:
 # Builds the Rust under its scripted clock and socket, and runs the cases and the lists of calls through it.
 oracle:
 	@oracle/run check .
+
+# Puts the lists of calls, and random ones of at least CALLS calls, to the program `calls` and to the Rust, and compares. What
+# the random ones are made from is the day, or SEED, for a run to be repeated.
+CALLS ?= 1000000
+SEED ?= $(shell date +%Y%m%d)
+compare:
+	@[ -n "$(RT)" ] || { echo "make compare: no rt on the PATH, and RATTLE_HOME is not set" >&2; exit 1; }
+	@$(RT) check calls
+	@echo "make compare CALLS=$(CALLS) SEED=$(SEED)"
+	@oracle/run compare target/bin/calls . $(SEED) $(CALLS)
 
 # Changes the Rust here and there, and asks of each change that the lists of calls show it.
 changes:

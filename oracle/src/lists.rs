@@ -3,7 +3,7 @@ use crate::calls::list::{self, Ran};
 use crate::generate;
 use std::path::{Path, PathBuf};
 
-fn lists(folder: &str) -> Vec<PathBuf> {
+pub fn lists(folder: &str) -> Vec<PathBuf> {
     let entries = std::fs::read_dir(folder).unwrap_or_else(|e| panic!("{folder}: {e}"));
     let is_list = |p: &PathBuf| p.extension().is_some_and(|x| x == "calls");
     let mut paths: Vec<PathBuf> = entries.map(|e| e.unwrap().path()).filter(is_list).collect();
@@ -11,14 +11,14 @@ fn lists(folder: &str) -> Vec<PathBuf> {
     paths
 }
 
-fn answered(path: &Path) -> (String, Ran) {
+pub fn answered(list: &str) -> (String, Ran) {
     let mut answers = vec![];
-    let ran = list::run(&crate::text(path), &mut answers);
+    let ran = list::run(list, &mut answers);
     (String::from_utf8(answers).unwrap(), ran)
 }
 
-/// The first line in which the two differ.
-fn difference(expected: &str, came: &str) -> Option<usize> {
+/// The first line in which the two differ, from 1.
+pub fn difference(expected: &str, came: &str) -> Option<usize> {
     let (mut a, mut b) = (expected.lines(), came.lines());
     (1..).find_map(|line| match (a.next(), b.next()) {
         (None, None) => Some(None),
@@ -43,13 +43,18 @@ fn is_as_made(text: &str) -> bool {
 /// Writes the answers of every list anew.
 pub fn write(folder: &str) {
     for path in lists(folder) {
-        std::fs::write(path.with_extension("answers"), answered(&path).0).unwrap();
+        std::fs::write(
+            path.with_extension("answers"),
+            answered(&crate::text(&path)).0,
+        )
+        .unwrap();
     }
 }
 
 /// What is wrong with a list, if anything is, and how many calls were answered.
 fn judged(path: &Path) -> (Option<String>, usize) {
-    let (came, ran) = answered(path);
+    let list = crate::text(path);
+    let (came, ran) = answered(&list);
     let expected = crate::text(path.with_extension("answers"));
     let wrong = match difference(&expected, &came) {
         Some(line) => {
@@ -57,7 +62,7 @@ fn judged(path: &Path) -> (Option<String>, usize) {
             Some(format!("answer {line} is now: {now}"))
         }
         None if ran.uneven > 0 => Some("the account doesn't add up".into()),
-        None if !is_as_made(&crate::text(path)) => Some("not what its seed gives".into()),
+        None if !is_as_made(&list) => Some("not what its seed gives".into()),
         None => None,
     };
     (wrong, ran.calls)

@@ -2,6 +2,7 @@
 mod calls;
 mod cases;
 mod clock;
+mod compare;
 mod errors;
 mod generate;
 mod lists;
@@ -25,7 +26,10 @@ oracle/run calls FILE        a list of calls, answered by the Rust (docs/CALLS.m
 oracle/run lists FOLDER      the lists in FOLDER, against the answers beside them
 oracle/run write FOLDER      the answers of the lists in FOLDER, anew
 oracle/run generate SEED CALLS    a random list of at least so many calls
-oracle/run vectors           cases whose expected values are the Rust's";
+oracle/run vectors           cases whose expected values are the Rust's
+oracle/run compare PROGRAM FOLDER SEED CALLS
+                             the lists of the repository in FOLDER and random ones of at least so many calls, answered by
+                             PROGRAM (its argument names the list) and by the Rust";
 
 fn text(path: impl AsRef<std::path::Path>) -> String {
     let path = path.as_ref();
@@ -64,6 +68,9 @@ fn main() {
         ["calls", file] => fine = calls(file),
         ["write", folder] => lists::write(folder),
         ["vectors"] => vectors::run(),
+        ["compare", program, folder, seed, n] => {
+            fine = compare::run(program, folder, number(seed), number(n) as usize)
+        }
         ["generate", seed, n] => print!("{}", generate::text(number(seed), number(n))),
         _ => {
             eprintln!("{USAGE}");

@@ -9,11 +9,14 @@ pub fn expected_at(line: usize, what: &str) -> Problem {
     }
 }
 
+/// How the text begins that tells it.
+pub const NO_COUNTERPART: &str = "no counterpart in the Rust";
+
 /// What 01 asks for and the Rust can't be asked.
 pub fn no_counterpart(line: usize, why: &str) -> Problem {
     Problem {
         line,
-        text: format!("no counterpart in the Rust: {why}"),
+        text: format!("{NO_COUNTERPART}: {why}"),
     }
 }
 

@@ -2,7 +2,7 @@
 use crate::calls::account::Account;
 use crate::calls::answer::{answers, sent, Answer};
 use crate::calls::call::{Call, Settings};
-use crate::calls::feed::{expected_at, no_counterpart, ListFeed};
+use crate::calls::feed::{expected_at, no_counterpart, ListFeed, NO_COUNTERPART};
 use crate::calls::parse;
 use crate::hpsdr::proto2::session::{self, Session};
 use crate::script::Problem;
@@ -38,13 +38,15 @@ struct Runner<W: Write> {
 /// What came of a list.
 #[derive(Debug, Default)]
 pub struct Ran {
-    /// How many calls were answered, and how many stretches the accounts have.
+    /// How many calls were answered, how many sessions were opened, and how many stretches the accounts have.
     pub calls: usize,
+    pub sessions: usize,
     pub stretches: usize,
     /// Accounts whose sums are not those of demand 3.
     pub uneven: usize,
-    /// Whether no line went wrong.
+    /// Whether no line went wrong, and whether one asks what the Rust can't be asked.
     pub fine: bool,
+    pub outside: bool,
 }
 
 impl<W: Write> Runner<W> {
@@ -90,6 +92,7 @@ impl<W: Write> Runner<W> {
         self.end();
         let answer = match session::open(settings) {
             Ok(s) => {
+                self.ran.sessions += 1;
                 self.session = Some(s);
                 self.account = Some(Account::default());
                 Answer::Opened
@@ -171,6 +174,7 @@ pub fn run(text: &str, out: impl Write) -> Ran {
     }
     Ran {
         fine: problem.is_none(),
+        outside: problem.is_some_and(|p| p.text.starts_with(NO_COUNTERPART)),
         ..runner.ran
     }
 }
