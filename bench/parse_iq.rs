@@ -1,9 +1,11 @@
 //! parse_iq_datagram, the Rust's and ours, on the same datagrams.
 //! `parse_iq time` prints the median nanoseconds a call of each, measured in turns;
 //! `parse_iq rust|ours|none N` makes N calls, for callgrind.
+mod common;
 #[allow(dead_code)]
 mod wire;
 
+use common::{datagrams, median};
 use num_complex::Complex32;
 use std::hint::black_box;
 use std::time::Instant;
@@ -13,25 +15,6 @@ extern "C" {
 }
 
 const DATAGRAMS: usize = 16;
-
-fn datagrams() -> Vec<[u8; 1444]> {
-    let mut x: u64 = 0x9e37_79b9_7f4a_7c15;
-    (0..DATAGRAMS)
-        .map(|n| {
-            let mut b = [0u8; 1444];
-            for o in b.iter_mut() {
-                x ^= x << 13;
-                x ^= x >> 7;
-                x ^= x << 17;
-                *o = (x >> 32) as u8;
-            }
-            b[..4].copy_from_slice(&(n as u32 + 1).to_be_bytes());
-            b[12..14].copy_from_slice(&24u16.to_be_bytes());
-            b[14..16].copy_from_slice(&238u16.to_be_bytes());
-            b
-        })
-        .collect()
-}
 
 fn rust(b: &[u8; 1444], out: &mut Vec<Complex32>) -> u32 {
     out.clear();
@@ -55,14 +38,9 @@ fn same(ds: &[[u8; 1444]]) {
     }
 }
 
-fn median(mut v: Vec<f64>) -> f64 {
-    v.sort_by(|a, b| a.total_cmp(b));
-    v[v.len() / 2]
-}
-
 fn main() {
     let args: Vec<String> = std::env::args().collect();
-    let ds = datagrams();
+    let ds = datagrams(DATAGRAMS);
     same(&ds);
     let mut a = Vec::with_capacity(238);
     let mut b = [0f32; 476];

@@ -6,19 +6,14 @@ mod compare;
 mod errors;
 mod generate;
 mod lists;
+mod local_bind;
 mod random;
 mod script;
 mod socket;
+mod socket2;
 mod vectors;
 
 include!(concat!(env!("OUT_DIR"), "/manta.rs"));
-
-/// What discovery.rs binds a probe's socket by. Nothing here probes.
-mod local_bind {
-    pub fn bind_udp_for(_: std::net::IpAddr) -> std::io::Result<std::net::UdpSocket> {
-        Err(std::io::ErrorKind::Unsupported.into())
-    }
-}
 
 const USAGE: &str = "oracle/run check FOLDER      every test, of the repository in FOLDER
 oracle/run cases FILE        a text of cases, judged by the Rust

@@ -2,16 +2,15 @@
 //! `session time` prints the median milliseconds of a million cycles of each, measured in turns;
 //! `session rust|ours order|gaps N` makes N cycles, for callgrind.
 mod clock;
+#[path = "../../common.rs"]
+mod common;
+#[path = "../../../oracle/src/local_bind.rs"]
+mod local_bind;
 mod socket;
+#[path = "../../../oracle/src/socket2.rs"]
+mod socket2;
 
 include!(concat!(env!("OUT_DIR"), "/manta.rs"));
-
-/// What discovery.rs binds a probe's socket by. Nothing here probes.
-mod local_bind {
-    pub fn bind_udp_for(_: std::net::IpAddr) -> std::io::Result<std::net::UdpSocket> {
-        Err(std::io::ErrorKind::Unsupported.into())
-    }
-}
 
 use std::hint::black_box;
 
@@ -39,17 +38,7 @@ const ORDER: u32 = 1;
 const GAPS: u32 = 3;
 
 fn datagram() -> [u8; 1444] {
-    let mut x: u64 = 0x9e37_79b9_7f4a_7c15;
-    let mut b = [0u8; 1444];
-    for o in b.iter_mut() {
-        x ^= x << 13;
-        x ^= x >> 7;
-        x ^= x << 17;
-        *o = (x >> 32) as u8;
-    }
-    b[12..14].copy_from_slice(&24u16.to_be_bytes());
-    b[14..16].copy_from_slice(&238u16.to_be_bytes());
-    b
+    common::datagrams(1)[0]
 }
 
 /// What the cycles told, and the bits of the samples that the last one handed out.
@@ -88,16 +77,11 @@ fn milliseconds(cycles: fn(u64, u32) -> (u64, Vec<u32>), step: u32) -> f64 {
     start.elapsed().as_secs_f64() * 1e3
 }
 
-fn median(mut v: Vec<f64>) -> f64 {
-    v.sort_by(|a, b| a.total_cmp(b));
-    v[v.len() / 2]
-}
-
 fn time(name: &str, step: u32) {
     let (r, o): (Vec<f64>, Vec<f64>) = (0..15)
         .map(|_| (milliseconds(rust, step), milliseconds(ours, step)))
         .unzip();
-    let (r, o) = (median(r), median(o));
+    let (r, o) = (common::median(r), common::median(o));
     println!(
         "ms a million cycles, {name}: Rust {r:.0}, ours {o:.0}, ratio {:.2}",
         o / r

@@ -1,9 +1,9 @@
 //! The socket that manta has: what is sent is counted, and what arrives is in the buffer already, but for its number.
+pub use crate::socket2::{Domain, Protocol, SockAddr, Socket, Type};
 use std::cell::Cell;
 use std::hint::black_box;
 use std::io;
 use std::net::{Ipv4Addr, SocketAddr, SocketAddrV4};
-use std::time::Duration;
 
 thread_local! {
     static SENT: Cell<u64> = const { Cell::new(0) };
@@ -38,53 +38,5 @@ impl UdpSocket {
 
     pub fn set_nonblocking(&self, _: bool) -> io::Result<()> {
         Ok(())
-    }
-}
-pub struct Domain;
-impl Domain {
-    pub const IPV4: Self = Self;
-}
-
-pub struct Type;
-impl Type {
-    pub const DGRAM: Self = Self;
-}
-
-pub struct Protocol;
-impl Protocol {
-    pub const UDP: Self = Self;
-}
-
-pub struct SockAddr;
-impl From<SocketAddrV4> for SockAddr {
-    fn from(_: SocketAddrV4) -> Self {
-        Self
-    }
-}
-
-/// A socket that is not bound yet.
-pub struct Socket;
-
-impl Socket {
-    pub fn new(_: Domain, _: Type, _: Option<Protocol>) -> io::Result<Self> {
-        Ok(Self)
-    }
-
-    pub fn set_recv_buffer_size(&self, _: usize) -> io::Result<()> {
-        Ok(())
-    }
-
-    pub fn bind(&self, _: &SockAddr) -> io::Result<()> {
-        Ok(())
-    }
-
-    pub fn set_read_timeout(&self, _: Option<Duration>) -> io::Result<()> {
-        Ok(())
-    }
-}
-
-impl From<Socket> for UdpSocket {
-    fn from(_: Socket) -> Self {
-        Self
     }
 }
