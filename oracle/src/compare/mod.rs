@@ -1,10 +1,12 @@
 //! A program over the proved session against the Rust: the same lists of calls, answer by answer.
+mod forms;
 mod program;
 mod shrink;
 
 use crate::calls::call::Call;
 use crate::calls::parse;
 use crate::lists::{answered, difference};
+use crate::random::Random;
 use crate::{errors, generate, lists, text};
 use program::{Program, TIME};
 use shrink::Shrinking;
@@ -150,7 +152,13 @@ impl Comparison {
             }
             let most = PIECE.min(calls - made) as u64;
             let list = generate::text(piece, most);
-            self.list(&format!("oracle/run generate {piece} {most}"), &list)?;
+            let name = format!("oracle/run generate {piece} {most}");
+            if piece % 2 == 0 {
+                self.list(&name, &list)?;
+            } else {
+                let other = forms::other(&mut Random::new(piece), &list);
+                self.list(&(name + ", its words in other forms"), &other)?;
+            }
         }
         Some(())
     }
