@@ -1,5 +1,5 @@
 //! Cycles of Begin, Pass, Arrival and Take, the Rust's `read()` and ours, on the same datagrams.
-//! `session time` prints the median milliseconds of a million cycles of each, measured in turns;
+//! `session time` prints the least and the median milliseconds of a million cycles of each, measured in turns;
 //! `session rust|ours order|gaps N` makes N cycles, for callgrind.
 mod clock;
 #[path = "../../common.rs"]
@@ -71,21 +71,27 @@ fn ours(n: u64, step: u32) -> (u64, Vec<u32>) {
     (told, buffer.iter().map(|x| x.to_bits()).collect())
 }
 
-fn milliseconds(cycles: fn(u64, u32) -> (u64, Vec<u32>), step: u32) -> f64 {
+/// Nanoseconds a cycle, which are milliseconds a million.
+fn nanoseconds(cycles: fn(u64, u32) -> (u64, Vec<u32>), step: u32) -> f64 {
+    let n = 100_000;
     let start = std::time::Instant::now();
-    black_box(cycles(1_000_000, step));
-    start.elapsed().as_secs_f64() * 1e3
+    black_box(cycles(n, step));
+    start.elapsed().as_nanos() as f64 / n as f64
 }
 
 fn time(name: &str, step: u32) {
-    let (r, o): (Vec<f64>, Vec<f64>) = (0..15)
-        .map(|_| (milliseconds(rust, step), milliseconds(ours, step)))
-        .unzip();
-    let (r, o) = (common::median(r), common::median(o));
-    println!(
-        "ms a million cycles, {name}: Rust {r:.0}, ours {o:.0}, ratio {:.2}",
-        o / r
-    );
+    let turn = |_| (nanoseconds(rust, step), nanoseconds(ours, step));
+    let (r, o): (Vec<f64>, Vec<f64>) = (0..101).map(turn).unzip();
+    let least = |v: &[f64]| v.iter().copied().fold(f64::INFINITY, f64::min);
+    for (what, r, o) in [
+        ("least", least(&r), least(&o)),
+        ("median", common::median(r), common::median(o)),
+    ] {
+        println!(
+            "ms a million cycles, {name}, {what}: Rust {r:.0}, ours {o:.0}, ratio {:.2}",
+            o / r
+        );
+    }
 }
 
 fn main() {
