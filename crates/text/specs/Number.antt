@@ -7,13 +7,15 @@ use lib.ListN.{getD, drop}
 use Rattle.text.specs.declared.Spelt.{Spelt}
 use Rattle.text.specs.declared.Spelt.the-variants.{Number, Nothing}
 
--- 0 to 9 and a to f in ASCII; 16 of anything else
+-- 0 to 9, a to f and A to F in ASCII; 16 of anything else
 unfoldable pub digitOf : ℕ → ℕ
 digitOf x =
     cond (ltb x 48) 16
     (cond (ltb x 58) (x - 48)
+    (cond (ltb x 65) 16
+    (cond (ltb x 71) (x - 55)
     (cond (ltb x 97) 16
-    (cond (ltb x 103) (x - 87) 16)))
+    (cond (ltb x 103) (x - 87) 16)))))
 
 -- n followed by the digits of a list, in base b: nothing where one is not below b or where the number passes a u64. In a base up to 16 what is no digit is none
 unfoldable pub digitsAfter : ℕ → ℕ → List ℕ → Spelt

@@ -5,6 +5,8 @@ ghost use mathlib.Core.Bool.{true};
 ghost use lib.ListN.{length};
 ghost use Rattle.text.specs.Run.{run, is, other};
 ghost use Rattle.text.specs.Number.{digitOf, digitsOf, isHex, numberOf};
+ghost use Rattle.text.specs.Split.{blank, filled, words, WordAt};
+ghost use Rattle.text.specs.Name.{place};
 
 // How many octets at the front of s equal b.
 pub fn past(s: &[u8], b: u8) -> usize
@@ -34,12 +36,88 @@ pub fn find(s: &[u8], b: u8) -> usize
     i
 }
 
+// A space, a tab or a carriage return.
+fn is_blank(x: u8) -> bool
+    ensures { λ r. ⌜ r ≡ blank x ⌝ }
+{
+    if x == b' ' {
+        return true;
+    }
+    if x == b'\t' {
+        return true;
+    }
+    x == b'\r'
+}
+
+fn past_blanks(s: &[u8]) -> usize
+    ensures { λ r. ⌜ (r ≡ run blank (now (s .entry))) × (r ≤ length (now (s .entry))) ⌝ }
+{
+    let mut i = 0;
+    while i < s.len() {
+        if is_blank(s[i]) {
+            i += 1;
+        } else {
+            return i;
+        }
+    }
+    i
+}
+
+fn find_blank(s: &[u8]) -> usize
+    ensures { λ r. ⌜ (r ≡ run filled (now (s .entry))) × (r ≤ length (now (s .entry))) ⌝ }
+{
+    let mut i = 0;
+    while i < s.len() {
+        if is_blank(s[i]) {
+            return i;
+        }
+        i += 1;
+    }
+    i
+}
+
+pub struct Word {
+    pub start: usize,
+    pub end: usize,
+}
+
+// The first word from `at` on; it ends where it starts if none is left.
+pub fn word_at(s: &[u8], at: usize) -> Word
+    requires { ⌜ at ≤ length (now s) ⌝ }
+    ensures { λ r. ⌜ WordAt (now (s .entry)) at (r .start) (r .end) ⌝ }
+{
+    let start = at + past_blanks(&s[at..]);
+    let end = start + find_blank(&s[start..]);
+    Word { start, end }
+}
+
+// The place of w among names with blanks between them, or how many these are.
+pub fn place_of(w: &[u8], names: &[u8]) -> usize
+    ensures { λ r. ⌜ r ≡ place (now (w .entry)) (words (now (names .entry))) ⌝ }
+{
+    let mut at = 0;
+    let mut k = 0;
+    loop {
+        let word = word_at(names, at);
+        let start = word.start;
+        let end = word.end;
+        if start == end {
+            return k;
+        }
+        if check::same(&names[start..end], w) {
+            return k;
+        }
+        at = end;
+        k += 1;
+    }
+}
+
 pub enum Spelt {
     Number(u64),
     Nothing,
 }
 
-// The value of a digit, 0 to 9 and a to f, and 16 of what is none.
+// The value of a digit, 0 to 9, a to f and A to F, and 16 of what is none.
 pub fn digit(x: u8) -> u64
     ensures { λ r. ⌜ (r ≡ digitOf x) × (r ≤ 16) ⌝ }
 {
@@ -49,6 +127,12 @@ pub fn digit(x: u8) -> u64
     }
     if n < 58 {
         return n - 48;
+    }
+    if n < 65 {
+        return 16;
+    }
+    if n < 71 {
+        return n - 55;
     }
     if n < 97 {
         return 16;

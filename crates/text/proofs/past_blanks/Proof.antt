@@ -1,0 +1,54 @@
+-- `text::past_blanks` passes the run of blanks. Assumes nothing.
+use Prim.Native.Nat.{_-_}
+use mathlib.Core.Path.{sym, _∙_}
+use lib.ListN.{length}
+use Rattle.text.specs.Split.{blank}
+use Rattle.text.proofs.Runs.{Passed, passed-none, passed-next, found-here, found-end}
+use borrow.Author.Needs.{needs}
+use Rattle.text.proofs.past_blanks.Statement.{statement}
+use Rattle.text.proofs.past_blanks.Tie as tie
+
+abbrev Inv-loop : tie.InvT-loop
+Inv-loop s i₀ i = Passed blank s i
+
+abbrev μ-loop : tie.MeasureT-loop
+μ-loop s i₀ i = length s - i
+
+loop-holds : tie.Need-loop-holds Inv-loop μ-loop
+loop-holds c = passed-none _ _
+
+shared-slice-read-is-blank : tie.Need-shared-slice-read-is-blank Inv-loop μ-loop
+shared-slice-read-is-blank c = search needs
+
+is-blank-requires : tie.Need-is-blank-requires Inv-loop μ-loop
+is-blank-requires c κs = search needs
+
+add-i : tie.Need-add-i Inv-loop μ-loop
+add-i c = search needs
+
+loop-less : tie.Need-loop-less Inv-loop μ-loop
+loop-less c = search needs
+
+loop-again : tie.Need-loop-again Inv-loop μ-loop
+loop-again c = passed-next _ _ _ (c .before .before .before .before .loop .inv) (search needs) (sym (c .before .is-blank .ensures) ∙ c .if1 .taken)
+
+returns : tie.Need-returns Inv-loop μ-loop
+returns c = found-here _ _ _ (c .before .before .before .before .loop .inv) (search needs) (sym (c .before .is-blank .ensures) ∙ c .if1 .left)
+
+returns-2 : tie.Need-returns-2 Inv-loop μ-loop
+returns-2 c = found-end _ _ _ (c .before .loop .inv) (search needs)
+
+pub past-blanks-spec : {M : Type 1} → statement M
+past-blanks-spec =
+    tie.close
+    (tie.spec
+    Inv-loop
+    μ-loop
+    loop-holds
+    shared-slice-read-is-blank
+    is-blank-requires
+    add-i
+    loop-less
+    loop-again
+    returns
+    returns-2)
