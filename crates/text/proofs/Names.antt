@@ -1,6 +1,6 @@
 -- A name's place: what each turn of the loop over the names shows. Assumes nothing.
 use mathlib.Core.Path.{_≡_, refl, sym, ap, _∙_}
-use mathlib.Core.Bool.{Bool, true, false, _&&_}
+use mathlib.Core.Bool.{Bool, true, false, _&&_, true≢false}
 use mathlib.Core.List.{List, [], _∷_}
 use Prim.Native.Nat.{ℕ, suc, _+_, _≤_}
 use native.Mathlib.Omega.{arith}
@@ -33,6 +33,11 @@ same-false a b h = go (same a b) refl
     go : (t : Bool) → same a b ≡ t → t ≡ false
     go true e = absurd (h (same-equal a b e))
     go false e = refl
+
+-- what a comparison tells
+pub same-told : (r : Bool) (a b : List ℕ) → (r ≡ true → a ≡ b) → (a ≡ b → r ≡ true) → r ≡ same a b
+same-told true a b y n = sym (rw (y refl) (same-self b))
+same-told false a b y n = sym (same-false a b (λ e. true≢false (sym (n e))))
 
 -- k names before at were none of them w
 abbrev pub Sought : List ℕ → List ℕ → ℕ → ℕ → Type 0

@@ -2,11 +2,12 @@
 use mathlib.Core.Path.{_≡_, refl, sym, ap, _∙_}
 use mathlib.Core.Bool.{Bool, true, false, not, cond}
 use mathlib.Core.List.{List, [], _∷_}
-use Prim.Native.Nat.{ℕ, zero, suc, _+_, _-_, _≤_}
+use Prim.Native.Nat.{ℕ, zero, suc, _+_, _-_, _≤_, _<_}
+use native.Mathlib.Numerals.{add-one}
 use native.Mathlib.Omega.{arith}
-use lib.ListN.{length, take, drop, length-take, length-drop}
-use lib.Seq.{drop-drop, take-all}
-use Rattle.text.specs.Run.{run}
+use lib.ListN.{length, take, drop, length-take, length-drop, drop-of-length-le}
+use lib.Seq.{drop-drop, drop-cons, take-all}
+use Rattle.text.specs.Run.{run, is, other}
 use Rattle.text.specs.Split.{grown, parts, notEmpty, blank, filled, words, before, part, WordAt}
 
 module _ (p : ℕ → Bool) where
@@ -41,6 +42,27 @@ module _ (p : ℕ → Bool) where
           → drop (cond b (suc (run p xs)) 0) (x ∷ xs) ≡ []
       go k true e h = k h
       go k false e h = let z : suc (run others xs) ≡ 0 = rw e at h in absurd (omega arith)
+
+  pub some-part : (s : List ℕ) → parts p s ≡ [] → ⊥
+  some-part s e = let z : _≡_ {A = ℕ} 0 1 = cc (first-part s) in omega arith
+
+-- the part from at on, of those that the octet b ends
+module _ (b : ℕ) (s : List ℕ) (at end : ℕ) (e : end ≡ at + run (other b) (drop at s)) where
+  here : parts (is b) (drop at s) ≡ part s at end ∷ after (is b) (drop end s)
+  here =
+      let n = run (other b) (drop at s) in
+      let q : n ≡ end - at = omega arith in
+      first-part (is b) (drop at s)
+      ∙ ap (λ (l : List ℕ). take n (drop at s) ∷ after (is b) l) (drop-drop n at s ∙ ap (λ (j : ℕ). drop j s) (sym e))
+      ∙ ap (λ (j : ℕ). take j (drop at s) ∷ after (is b) (drop end s)) q
+
+  pub last-part : end ≡ length s → parts (is b) (drop at s) ≡ part s at end ∷ []
+  unfolding after
+  last-part h = here ∙ rw (drop-of-length-le s {i = end} (omega arith))
+
+  pub next-part : end < length s → parts (is b) (drop at s) ≡ part s at end ∷ parts (is b) (drop (end + 1) s)
+  unfolding after
+  next-part h = here ∙ rw (drop-cons s end 0 h, add-one end)
 
 -- ---- words
 

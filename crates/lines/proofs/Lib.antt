@@ -1,0 +1,3 @@
+-- The laws of `lines`, for its own proofs: a file imports only what stands above it here.
+pub mod Values
+pub mod Addresses

@@ -1,0 +1,2 @@
+-- The definitions that the contracts of `lines` cite: docs/CALLS.md, in its order.
+pub mod Value

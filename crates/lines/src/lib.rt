@@ -1,0 +1,3 @@
+// A line of a list of calls, read (docs/CALLS.md). What can't be read gives what was expected.
+mod address;
+mod reading;
