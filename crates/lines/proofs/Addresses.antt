@@ -16,7 +16,7 @@ use Rattle.text.specs.Split.{parts, part}
 use Rattle.text.specs.declared.Spelt.{Spelt}
 use Rattle.text.specs.declared.Spelt.the-variants.{Number, Nothing}
 use Rattle.text.proofs.Splits.{last-part, next-part, some-part}
-use Rattle.lines.specs.Value.{then, number, octetsAfter, ipv4, host, senderAt, sender}
+use Rattle.lines.specs.Value.{given, then, number, octetsAfter, ipv4, host, senderAt, sender}
 use Rattle.lines.proofs.Values.{then-no, then-yes, number-most}
 
 -- what a number of as many octets as are read, of four, is below
@@ -44,7 +44,7 @@ bound-fits (suc (suc (suc (suc k)))) n h = omega arith
 
 -- an address fits 32 bits
 octets-below : (k n : ℕ) (ps : List (List ℕ)) (a : ℕ) → k ≤ 4 → n < bound k → octetsAfter k n ps ≡ Number a → a < 4294967296
-unfolding octetsAfter then
+unfolding octetsAfter given
 octets-below zero n [] a l h e = let z : n ≡ a = cc in omega arith
 octets-below zero n (p ∷ ps) a l h e = let z : _≡_ {A = ℕ} 0 1 = cc in absurd (omega arith)
 octets-below (suc k) n [] a l h e = let z : _≡_ {A = ℕ} 0 1 = cc in absurd (omega arith)

@@ -19,16 +19,23 @@ use Rattle.text.specs.declared.Spelt.the-variants.{Number, Nothing}
 use Rattle.octets.specs.Pick.{pick}
 use Rattle.octets.proofs.Picks.{pick-t, pick-f, pick-either}
 use Rattle.text.specs.Number.{digitsOf}
-use Rattle.lines.specs.Value.{then, number, ends}
+use Rattle.lines.specs.Value.{given, then, number, ends}
+
+module _ {A : Type 0} (x : Spelt) (f : ℕ → A) (z : A) where
+  pub given-no : x ≡ Nothing → given x f z ≡ z
+  unfolding given
+  given-no e = rw e
+
+  pub given-yes : (n : ℕ) → x ≡ Number n → given x f z ≡ f n
+  unfolding given
+  given-yes n e = rw e
 
 module _ (x : Spelt) (f : ℕ → Spelt) where
   pub then-no : x ≡ Nothing → then x f ≡ Nothing
-  unfolding then
-  then-no e = rw e
+  then-no = given-no x f Nothing
 
   pub then-yes : (n : ℕ) → x ≡ Number n → then x f ≡ f n
-  unfolding then
-  then-yes n e = rw e
+  then-yes = given-yes x f Nothing
 
 -- a word that is shorter than its end
 pub too-short : (w unit : List ℕ) → length w < length unit → ends w unit ≡ false
@@ -45,7 +52,7 @@ module _ (v k m : ℕ) (p : 0 < k) where
 
 -- a number that was read is within its limit
 pub number-most : (m : ℕ) (w : List ℕ) (n : ℕ) → number m w ≡ Number n → n ≤ m
-unfolding number then pick
+unfolding number given pick
 number-most m w n e = go (digitsOf 10 w) e
   where
     held : (v : ℕ) (b : Bool) → leb v m ≡ b → pick b (Number v) Nothing ≡ Number n → n ≤ m

@@ -1,2 +1,5 @@
 -- The definitions that the contracts of `lines` cite: docs/CALLS.md, in its order.
 pub mod Value
+pub mod Octets
+pub mod Waiting
+pub mod Datagram

@@ -14,10 +14,13 @@ use Rattle.text.specs.Number.{digitsOf}
 use Rattle.text.specs.declared.Spelt.{Spelt}
 use Rattle.text.specs.declared.Spelt.the-variants.{Number, Nothing}
 
--- what is made of a number where one is spelt
-unfoldable pub then : Spelt → (ℕ → Spelt) → Spelt
-then (Number n) f = f n
-then Nothing f = Nothing
+-- what is made of a number where one is spelt, and what else
+unfoldable pub given : {A : Type 0} → Spelt → (ℕ → A) → A → A
+given (Number n) f z = f n
+given Nothing f z = z
+
+abbrev pub then : Spelt → (ℕ → Spelt) → Spelt
+then x f = given x f Nothing
 
 -- decimal digits, at most m
 unfoldable pub number : ℕ → List ℕ → Spelt

@@ -1,3 +1,6 @@
 // A line of a list of calls, read (docs/CALLS.md). What can't be read gives what was expected.
 mod address;
+mod datagram;
+mod hexadecimal;
 mod reading;
+mod waiting;
