@@ -4,3 +4,4 @@ pub mod Addresses
 pub mod Hexes
 pub mod Spans
 pub mod Datagrams
+pub mod Options

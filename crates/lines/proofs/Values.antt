@@ -19,7 +19,7 @@ use Rattle.text.specs.declared.Spelt.the-variants.{Number, Nothing}
 use Rattle.octets.specs.Pick.{pick}
 use Rattle.octets.proofs.Picks.{pick-t, pick-f, pick-either}
 use Rattle.text.specs.Number.{digitsOf}
-use Rattle.lines.specs.Value.{given, then, number, ends}
+use Rattle.lines.specs.Value.{given, then, upTo, number, ends}
 
 module _ {A : Type 0} (x : Spelt) (f : ℕ → A) (z : A) where
   pub given-no : x ≡ Nothing → given x f z ≡ z
@@ -62,6 +62,16 @@ number-most m w n e = go (digitsOf 10 w) e
     go : (x : Spelt) → then x (λ v. pick (leb v m) (Number v) Nothing) ≡ Number n → n ≤ m
     go (Number v) e = held v (leb v m) refl e
     go Nothing e = let z : _≡_ {A = ℕ} 0 1 = cc in absurd (omega arith)
+
+-- what is held to a limit was spelt
+pub up-to-number : (m : ℕ) (x : Spelt) (n : ℕ) → upTo m x ≡ Number n → x ≡ Number n
+unfolding given pick
+up-to-number m (Number v) n e = held (leb v m) e
+  where
+    held : (b : Bool) → pick b (Number v) Nothing ≡ Number n → Number v ≡ Number n
+    held true e = e
+    held false e = let z : _≡_ {A = ℕ} 0 1 = cc in absurd (omega arith)
+up-to-number m Nothing n e = let z : _≡_ {A = ℕ} 0 1 = cc in absurd (omega arith)
 
 -- a whole number's double is none but a number
 valued : (x : Float) (n : ℕ) → HasValue x false n 1 → T (not (isNan x))

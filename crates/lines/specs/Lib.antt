@@ -3,3 +3,4 @@ pub mod Value
 pub mod Octets
 pub mod Waiting
 pub mod Datagram
+pub mod Option

@@ -22,9 +22,13 @@ given Nothing f z = z
 abbrev pub then : Spelt → (ℕ → Spelt) → Spelt
 then x f = given x f Nothing
 
--- decimal digits, at most m
+-- at most m
+abbrev pub upTo : ℕ → Spelt → Spelt
+upTo m x = then x (λ n. pick (leb n m) (Number n) Nothing)
+
+-- decimal digits
 unfoldable pub number : ℕ → List ℕ → Spelt
-number m w = then (digitsOf 10 w) (λ n. pick (leb n m) (Number n) Nothing)
+number m w = upTo m (digitsOf 10 w)
 
 unfoldable pub ends : List ℕ → List ℕ → Bool
 ends w unit = same (drop (length w - length unit) w) unit

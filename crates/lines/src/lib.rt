@@ -2,5 +2,6 @@
 mod address;
 mod datagram;
 mod hexadecimal;
+mod option;
 mod reading;
 mod waiting;

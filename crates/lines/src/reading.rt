@@ -8,17 +8,24 @@ use text::Spelt;
 
 const MOST: u64 = 18446744073709551615;
 
-// Decimal digits, at most `most`.
-pub(crate) fn number(w: &[u8], most: u64) -> Spelt
-    ensures { λ r. ⌜ r ≡ Value.number most (now (w .entry)) ⌝ }
+// What is spelt, where it is at most `most`.
+pub(crate) fn up_to(x: Spelt, most: u64) -> Spelt
+    ensures { λ r. ⌜ r ≡ Value.upTo most x ⌝ }
 {
-    let Spelt::Number(n) = text::digits(w, 10) else {
+    let Spelt::Number(n) = x else {
         return Spelt::Nothing;
     };
     if n <= most {
         return Spelt::Number(n);
     }
     Spelt::Nothing
+}
+
+// Decimal digits, at most `most`.
+pub(crate) fn number(w: &[u8], most: u64) -> Spelt
+    ensures { λ r. ⌜ r ≡ Value.number most (now (w .entry)) ⌝ }
+{
+    up_to(text::digits(w, 10), most)
 }
 
 fn ends(w: &[u8], unit: &[u8]) -> bool

@@ -1,0 +1,167 @@
+-- Options: what each way through a word gives, and a run of words. Assumes nothing.
+use mathlib.Core.Path.{_≡_, refl, sym, ap, _∙_}
+use mathlib.Core.List.{List, [], _∷_}
+use Prim.Native.Nat.{ℕ, _+_, _≤_, _<_}
+use native.Mathlib.Omega.{arith}
+use borrow.Author.Tests.{lt-ltb, le-ltb, le-leb, lt-leb, eq-eqb, ne-eqb}
+use mathlib.Core.Bool.{false}
+use lib.Dec.{eqb}
+use lib.ListN.{length, take, drop, getD, set}
+use Rattle.octets.proofs.Picks.{pick-t, pick-f}
+use Rattle.text.specs.Run.{run, other}
+use Rattle.text.specs.Name.{ascii, named, place}
+use Rattle.text.specs.Split.{parts, notEmpty, blank, grown, words, part, WordAt}
+use Rattle.text.specs.declared.Spelt.{Spelt}
+use Rattle.text.specs.declared.Spelt.the-variants.{Number, Nothing}
+use Rattle.text.proofs.Splits.{no-word, one-word}
+use Rattle.lines.specs.declared.option.Took.{Took}
+use Rattle.lines.specs.declared.option.Took.the-variants.{Taken, Unknown, Unreadable}
+use Rattle.lines.specs.Option as Option
+use Rattle.lines.specs.Option.{keyAt, valueAt, equalsIn, tookKey, valuesKey, took, valuesAfter, numbersAfter, valueOf, numbersFor, Stepped, andThen, optionsTook, optionsValues, optionsNumbers, Ran}
+use Rattle.lines.proofs.Values.{given-no, given-yes}
+
+pub key-names : words (ascii "at receivers centres rate centre port radio board attenuation soft hard window malformed buffer waiting length bits samples") ≡ Option.keys
+unfolding words parts notEmpty blank grown
+key-names = refl
+
+pub attenuation-names : words (ascii "off on unsaid") ≡ named ("off" ∷ "on" ∷ "unsaid" ∷ [])
+unfolding words parts notEmpty blank grown
+attenuation-names = refl
+
+-- a number that is i is not j
+pub differs : {n : ℕ} (i j : ℕ) → eqb i j ≡ false → n ≡ i → eqb n j ≡ false
+differs i j f e = rw e f
+
+-- ---- a word
+
+module _ (from to : ℕ) (l d w m n : List ℕ) where
+  unknown : Unknown ≡ took from to l w → Stepped from to l d w Unknown m n
+  unknown e =
+      record {
+        told = e;
+        values = λ t. let z : _≡_ {A = ℕ} 0 1 = cc in absurd (omega arith);
+        numbers = λ t. let z : _≡_ {A = ℕ} 0 1 = cc in absurd (omega arith);
+      }
+
+  module _ (equals : ℕ) (e : equals ≡ equalsIn w) where
+    pub no-equals : length w ≤ equals → Stepped from to l d w Unknown m n
+    unfolding took
+    no-equals h = unknown (sym (pick-t _ _ _ (le-leb (length w) (equalsIn w) (omega arith))))
+
+    module _ (h : equals < length w) (key : ℕ) (k : key ≡ keyAt equals w) where
+      by-key : tookKey key (valueAt equals w) from to l ≡ took from to l w
+      unfolding took
+      by-key =
+          ap (λ (j : ℕ). tookKey j (valueAt equals w) from to l) k
+          ∙ ap (λ (j : ℕ). tookKey (keyAt j w) (valueAt j w) from to l) e
+          ∙ sym (pick-f _ _ _ (lt-leb (length w) (equalsIn w) (omega arith)))
+
+      pub key-below : key < from → Stepped from to l d w Unknown m n
+      unfolding tookKey
+      key-below b = unknown (sym (pick-t _ _ _ (lt-ltb _ _ b)) ∙ by-key)
+
+      module _ (b : from ≤ key) where
+        pub key-above : to ≤ key → Stepped from to l d w Unknown m n
+        unfolding tookKey
+        key-above a = unknown (sym (pick-f _ _ _ (le-ltb _ _ b) ∙ pick-t _ _ _ (le-leb _ _ a)) ∙ by-key)
+
+        module _ (a : key < to) where
+          pub said-before : getD l (18 + key) 0 ≡ 1 → Stepped from to l d w Unknown m n
+          unfolding tookKey
+          said-before s = unknown (sym (pick-f _ _ _ (le-ltb _ _ b) ∙ pick-f _ _ _ (lt-leb _ _ a) ∙ pick-t _ _ _ (eq-eqb _ _ s)) ∙ by-key)
+
+          module _ (s : getD l (18 + key) 0 ≡ 1 → ⊥) where
+            pub unread-value : valueOf key (valueAt equals w) ≡ Nothing → Stepped from to l d w (Unreadable key) m n
+            unfolding tookKey
+            unread-value r =
+                record {
+                  told = sym (pick-f _ _ _ (le-ltb _ _ b) ∙ pick-f _ _ _ (lt-leb _ _ a) ∙ pick-f _ _ _ (ne-eqb _ _ s) ∙ given-no _ _ _ r) ∙ by-key;
+                  values = λ t. let z : _≡_ {A = ℕ} 0 1 = cc in absurd (omega arith);
+                  numbers = λ t. let z : _≡_ {A = ℕ} 0 1 = cc in absurd (omega arith);
+                }
+
+            pub taken : (v : ℕ) → valueOf key (valueAt equals w) ≡ Number v → m ≡ set (set l key v) (18 + key) 1 → n ≡ numbersFor key (valueAt equals w) d
+                → Stepped from to l d w Taken m n
+            unfolding tookKey valuesAfter valuesKey numbersAfter
+            taken v r f g =
+                record {
+                  told = sym (pick-f _ _ _ (le-ltb _ _ b) ∙ pick-f _ _ _ (lt-leb _ _ a) ∙ pick-f _ _ _ (ne-eqb _ _ s) ∙ given-yes _ _ _ v r) ∙ by-key;
+                  values =
+                      λ t. f
+                      ∙ ap (λ (x : ℕ). set (set l key x) (18 + key) 1) (sym (given-yes _ (λ (x : ℕ). x) 0 v r))
+                      ∙ ap (λ (j : ℕ). valuesKey j (valueAt equals w) l) k
+                      ∙ ap (λ (j : ℕ). valuesKey (keyAt j w) (valueAt j w) l) e;
+                  numbers =
+                      λ t. g
+                      ∙ ap (λ (j : ℕ). numbersFor j (valueAt equals w) d) k
+                      ∙ ap (λ (j : ℕ). numbersFor (keyAt j w) (valueAt j w) d) e;
+                }
+
+-- ---- a run of words
+
+-- the words before at were taken, and have left m and n
+pub record Running (from to : ℕ) (s l d : List ℕ) (start at : ℕ) (m n : List ℕ) : Type 0 where
+  pub within : at ≤ length s
+  pub as-long : length m ≡ length l
+  pub as-many : length n ≡ length d
+  pub told : optionsTook from to m (words (drop at s)) ≡ optionsTook from to l (words (drop start s))
+  pub values : optionsValues m (words (drop at s)) ≡ optionsValues l (words (drop start s))
+  pub numbers : optionsNumbers n (words (drop at s)) ≡ optionsNumbers d (words (drop start s))
+
+pub running : (from to : ℕ) (s l d : List ℕ) (start : ℕ) → start ≤ length s → Running from to s l d start start l d
+running from to s l d start h = record { within = h; as-long = refl; as-many = refl; told = refl; values = refl; numbers = refl }
+
+module _ (from to : ℕ) (s l d : List ℕ) (start at : ℕ) (m n : List ℕ) (i : Running from to s l d start at m n) (a e : ℕ) (w : WordAt s at a e) where
+  pub no-more : a ≡ e → Ran from to l d (words (drop start s)) Taken m n
+  unfolding optionsTook optionsValues optionsNumbers
+  no-more z =
+      let q = no-word s at a e w z in
+      record {
+        told = sym (ap (optionsTook from to m) q) ∙ i .told;
+        values = λ t. sym (ap (optionsValues m) q) ∙ i .values;
+        numbers = λ t. sym (ap (optionsNumbers n) q) ∙ i .numbers;
+      }
+
+  module _ (z : a ≡ e → ⊥) (r : Took) (o p : List ℕ) (t : Stepped from to m n (part s a e) r o p) where
+    told-here : andThen r (optionsTook from to (valuesAfter m (part s a e)) (words (drop e s))) ≡ optionsTook from to l (words (drop start s))
+    unfolding optionsTook
+    told-here =
+        ap (λ (x : Took). andThen x (optionsTook from to (valuesAfter m (part s a e)) (words (drop e s)))) (t .told)
+        ∙ sym (ap (optionsTook from to m) (one-word s at a e w z))
+        ∙ i .told
+
+    pub stops-unknown : r ≡ Unknown → Ran from to l d (words (drop start s)) Unknown o p
+    unfolding andThen
+    stops-unknown q =
+        record {
+          told = rw q at told-here;
+          values = λ x. let z : _≡_ {A = ℕ} 0 1 = cc in absurd (omega arith);
+          numbers = λ x. let z : _≡_ {A = ℕ} 0 1 = cc in absurd (omega arith);
+        }
+
+    pub stops-unread : (k : ℕ) → r ≡ Unreadable k → Ran from to l d (words (drop start s)) (Unreadable k) o p
+    unfolding andThen
+    stops-unread k q =
+        record {
+          told = rw q at told-here;
+          values = λ x. let z : _≡_ {A = ℕ} 0 1 = cc in absurd (omega arith);
+          numbers = λ x. let z : _≡_ {A = ℕ} 0 1 = cc in absurd (omega arith);
+        }
+
+    pub goes-on : r ≡ Taken → length o ≡ length m → length p ≡ length n → Running from to s l d start e o p
+    unfolding andThen optionsValues optionsNumbers
+    goes-on q x y =
+        record {
+          within = w .within;
+          as-long = x ∙ i .as-long;
+          as-many = y ∙ i .as-many;
+          told = ap (λ (v : List ℕ). optionsTook from to v (words (drop e s))) (t .values q) ∙ (rw q at told-here);
+          values =
+              ap (λ (v : List ℕ). optionsValues v (words (drop e s))) (t .values q)
+              ∙ sym (ap (optionsValues m) (one-word s at a e w z))
+              ∙ i .values;
+          numbers =
+              ap (λ (v : List ℕ). optionsNumbers v (words (drop e s))) (t .numbers q)
+              ∙ sym (ap (optionsNumbers n) (one-word s at a e w z))
+              ∙ i .numbers;
+        }

@@ -1,0 +1,161 @@
+-- Options, key=value: the keys, what each takes, and what a run of them leaves. Definitions only.
+use Prim.Native.Nat.{ℕ, _+_}
+use mathlib.Core.Path.{_≡_}
+use mathlib.Core.Bool.{Bool}
+use mathlib.Core.List.{List, [], _∷_}
+use lib.Dec.{ltb, leb, eqb}
+use lib.ListN.{length, take, drop, getD, set}
+use Rattle.octets.specs.Pick.{pick}
+use Rattle.octets.specs.Written.{written}
+use Rattle.text.specs.Run.{run, other}
+use Rattle.text.specs.Name.{ascii, named, place, same}
+use Rattle.text.specs.Number.{digitsOf}
+use Rattle.text.specs.declared.Spelt.{Spelt}
+use Rattle.text.specs.declared.Spelt.the-variants.{Number, Nothing}
+use Rattle.lines.specs.declared.option.Took.{Took}
+use Rattle.lines.specs.declared.option.Took.the-variants.{Taken, Unknown, Unreadable}
+use Rattle.lines.specs.Value.{given, upTo, number, reading, double, ipv4}
+use Rattle.lines.specs.Waiting.{waitingCount, waitingNumbers}
+
+-- a key is its place here: those of `open`, then those of the calls
+abbrev pub keys : List (List ℕ)
+keys =
+    named
+    ("at"
+    ∷ "receivers"
+    ∷ "centres"
+    ∷ "rate"
+    ∷ "centre"
+    ∷ "port"
+    ∷ "radio"
+    ∷ "board"
+    ∷ "attenuation"
+    ∷ "soft"
+    ∷ "hard"
+    ∷ "window"
+    ∷ "malformed"
+    ∷ "buffer"
+    ∷ "waiting"
+    ∷ "length"
+    ∷ "bits"
+    ∷ "samples"
+    ∷ [])
+
+-- how its value is spelt: 0 a number, 1 a reading, 2 a double, 3 an address, 4 a board, 5 an attenuation, 6 waiting numbers
+abbrev pub spellings : List ℕ
+spellings = 1 ∷ 0 ∷ 0 ∷ 2 ∷ 2 ∷ 0 ∷ 3 ∷ 4 ∷ 5 ∷ 1 ∷ 1 ∷ 0 ∷ 0 ∷ 0 ∷ 6 ∷ 0 ∷ 0 ∷ 0 ∷ []
+
+-- the most that it can be: of a board 256 is `skipped`, of an attenuation 0 is off, 1 on and 2 unsaid, of waiting numbers it is how many
+abbrev pub limits : List ℕ
+limits =
+    18446744073709551615
+    ∷ 65535
+    ∷ 65535
+    ∷ 18446744073709551615
+    ∷ 18446744073709551615
+    ∷ 65535
+    ∷ 4294967295
+    ∷ 256
+    ∷ 2
+    ∷ 18446744073709551615
+    ∷ 18446744073709551615
+    ∷ 18446744073709551615
+    ∷ 4294967295
+    ∷ 8192
+    ∷ 8193
+    ∷ 2048
+    ∷ 65535
+    ∷ 65535
+    ∷ []
+
+unfoldable pub board : List ℕ → Spelt
+board w = pick (same w (ascii "skipped")) (Number 256) (number 255 w)
+
+unfoldable pub attenuation : List ℕ → Spelt
+attenuation w = upTo 2 (Number (place w (named ("off" ∷ "on" ∷ "unsaid" ∷ []))))
+
+unfoldable pub speltAs : ℕ → List ℕ → Spelt
+speltAs how w =
+    pick (eqb how 1) (reading w)
+    (pick (eqb how 2) (double w)
+    (pick (eqb how 3) (ipv4 w)
+    (pick (eqb how 4) (board w)
+    (pick (eqb how 5) (attenuation w)
+    (pick (eqb how 6) (waitingCount w)
+    (digitsOf 10 w))))))
+
+unfoldable pub valueOf : ℕ → List ℕ → Spelt
+valueOf key w = upTo (getD limits key 0) (speltAs (getD spellings key 0) w)
+
+-- the lent numbers after a value was read
+unfoldable pub numbersAs : ℕ → List ℕ → List ℕ → List ℕ
+numbersAs how w d = pick (eqb how 6) (written d 0 (waitingNumbers w)) d
+
+abbrev pub numbersFor : ℕ → List ℕ → List ℕ → List ℕ
+numbersFor key w d = numbersAs (getD spellings key 0) w d
+
+-- ---- a word: its key and its value
+
+abbrev pub keyAt : ℕ → List ℕ → ℕ
+keyAt equals w = place (take equals w) keys
+
+abbrev pub valueAt : ℕ → List ℕ → List ℕ
+valueAt equals w = drop (equals + 1) w
+
+-- the values that were said: place k is that of key k, and place 18 + k is 1 where it was said
+abbrev pub said : List ℕ → ℕ → Bool
+said l key = eqb (getD l (18 + key) 0) 1
+
+-- what a key and its value come to where the keys from one on, up to another, may be said
+unfoldable pub tookKey : ℕ → List ℕ → ℕ → ℕ → List ℕ → Took
+tookKey key v from to l =
+    pick (ltb key from) Unknown
+    (pick (leb to key) Unknown
+    (pick (said l key) Unknown
+    (given (valueOf key v) (λ n. Taken) (Unreadable key))))
+
+unfoldable pub valuesKey : ℕ → List ℕ → List ℕ → List ℕ
+valuesKey key v l = set (set l key (given (valueOf key v) (λ n. n) 0)) (18 + key) 1
+
+abbrev pub equalsIn : List ℕ → ℕ
+equalsIn w = run (other 61) w
+
+unfoldable pub took : ℕ → ℕ → List ℕ → List ℕ → Took
+took from to l w =
+    pick (leb (length w) (equalsIn w)) Unknown (tookKey (keyAt (equalsIn w) w) (valueAt (equalsIn w) w) from to l)
+
+unfoldable pub valuesAfter : List ℕ → List ℕ → List ℕ
+valuesAfter l w = valuesKey (keyAt (equalsIn w) w) (valueAt (equalsIn w) w) l
+
+unfoldable pub numbersAfter : List ℕ → List ℕ → List ℕ
+numbersAfter d w = numbersFor (keyAt (equalsIn w) w) (valueAt (equalsIn w) w) d
+
+-- a word was taken as r, and the values and the lent numbers are then m and e
+pub record Stepped (from to : ℕ) (l d w : List ℕ) (r : Took) (m e : List ℕ) : Type 0 where
+  pub told : r ≡ took from to l w
+  pub values : r ≡ Taken → m ≡ valuesAfter l w
+  pub numbers : r ≡ Taken → e ≡ numbersAfter d w
+
+-- ---- a run of words
+
+unfoldable pub andThen : Took → Took → Took
+andThen Taken t = t
+andThen Unknown t = Unknown
+andThen (Unreadable k) t = Unreadable k
+
+unfoldable pub optionsTook : ℕ → ℕ → List ℕ → List (List ℕ) → Took
+optionsTook from to l [] = Taken
+optionsTook from to l (w ∷ ws) = andThen (took from to l w) (optionsTook from to (valuesAfter l w) ws)
+
+unfoldable pub optionsValues : List ℕ → List (List ℕ) → List ℕ
+optionsValues l [] = l
+optionsValues l (w ∷ ws) = optionsValues (valuesAfter l w) ws
+
+unfoldable pub optionsNumbers : List ℕ → List (List ℕ) → List ℕ
+optionsNumbers d [] = d
+optionsNumbers d (w ∷ ws) = optionsNumbers (numbersAfter d w) ws
+
+pub record Ran (from to : ℕ) (l d : List ℕ) (ws : List (List ℕ)) (r : Took) (m e : List ℕ) : Type 0 where
+  pub told : r ≡ optionsTook from to l ws
+  pub values : r ≡ Taken → m ≡ optionsValues l ws
+  pub numbers : r ≡ Taken → e ≡ optionsNumbers d ws
