@@ -5,3 +5,5 @@ pub mod Hexes
 pub mod Spans
 pub mod Datagrams
 pub mod Options
+pub mod Forms
+pub mod Fillings

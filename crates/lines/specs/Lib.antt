@@ -4,3 +4,4 @@ pub mod Octets
 pub mod Waiting
 pub mod Datagram
 pub mod Option
+pub mod Argument

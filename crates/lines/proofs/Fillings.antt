@@ -1,0 +1,115 @@
+-- The words of a form, one by one: what each turn of the loop over them leaves. Assumes nothing.
+use mathlib.Core.Path.{_≡_, refl, sym, ap, _∙_}
+use mathlib.Core.List.{List, [], _∷_}
+use Prim.Native.Nat.{ℕ, suc, _+_, _-_, _≤_, _<_}
+use native.Mathlib.Nat.{add-zero, sub-zero}
+use native.Mathlib.Numerals.{add-one}
+use native.Mathlib.Omega.{arith}
+use lib.ListN.{length, drop, getD, set, length-set, drop-of-length-le}
+use lib.Seq.{drop-cons, drop-drop}
+use Rattle.text.specs.Split.{words, part, WordAt}
+use Rattle.text.specs.declared.Spelt.the-variants.{Number, Nothing}
+use Rattle.text.proofs.Splits.{no-word, one-word}
+use Rattle.lines.specs.Argument.{argument, octetsAs, unread, argumentValues, argumentOctets, Arguments}
+use Rattle.lines.proofs.Values.{given-no, given-yes}
+
+-- the first j words of the form are read, and have left m and n
+pub record Filling (ts s l d : List ℕ) (start at j : ℕ) (m n : List ℕ) : Type 0 where
+  pub within : at ≤ length s
+  pub most : j ≤ length ts
+  pub as-long : length m ≡ length l
+  pub as-many : length n ≡ length d
+  pub told : unread (drop j ts) (words (drop at s)) ≡ unread ts (words (drop start s))
+  pub values : argumentValues (36 + j) (drop j ts) (words (drop at s)) m ≡ argumentValues 36 ts (words (drop start s)) l
+  pub octets : argumentOctets (drop j ts) (words (drop at s)) n ≡ argumentOctets ts (words (drop start s)) d
+  pub follows : drop (length ts - j) (words (drop at s)) ≡ drop (length ts) (words (drop start s))
+
+pub filling : (ts s l d : List ℕ) (start : ℕ) → start ≤ length s → Filling ts s l d start start 0 l d
+filling ts s l d start h =
+    record {
+      within = h;
+      most = omega arith;
+      as-long = refl;
+      as-many = refl;
+      told = refl;
+      values = refl;
+      octets = refl;
+      follows = rw (sub-zero (length ts));
+    }
+
+module _ (ts s l d : List ℕ) (start at j : ℕ) (m n : List ℕ) (i : Filling ts s l d start at j m n) where
+  pub filled : length ts ≤ j → Arguments ts s l d (words (drop start s)) 6 at m n
+  unfolding unread argumentValues argumentOctets
+  filled h =
+      let z = drop-of-length-le ts {i = j} h in
+      let k : length ts - j ≡ 0 = omega arith in
+      record {
+        told = sym (ap (λ (x : List ℕ). unread x (words (drop at s))) z) ∙ i .told;
+        within = i .within;
+        values = λ t. sym (ap (λ (x : List ℕ). argumentValues (36 + j) x (words (drop at s)) m) z) ∙ i .values;
+        octets = λ t. sym (ap (λ (x : List ℕ). argumentOctets x (words (drop at s)) n) z) ∙ i .octets;
+        follows = λ t. sym (ap (λ (x : ℕ). drop x (words (drop at s))) k) ∙ i .follows;
+      }
+
+  module _ (h : j < length ts) (t : ℕ) (k : t ≡ getD ts j 0) (b : t < 6) (a e : ℕ) (w : WordAt s at a e) where
+    next : drop j ts ≡ t ∷ drop (suc j) ts
+    next = drop-cons ts j 0 h ∙ ap (λ (x : ℕ). x ∷ drop (suc j) ts) (sym k)
+
+    unread-here : (x y : List ℕ) → t ≡ unread ts (words (drop start s)) → Arguments ts s l d (words (drop start s)) t at x y
+    unread-here x y q =
+        record {
+          told = q;
+          within = i .within;
+          values = λ z. absurd (omega arith);
+          octets = λ z. absurd (omega arith);
+          follows = λ z. absurd (omega arith);
+        }
+
+    pub not-there : a ≡ e → Arguments ts s l d (words (drop start s)) t at m n
+    unfolding unread
+    not-there z =
+        unread-here m n
+        (sym (ap (λ (x : List ℕ). unread x []) next) ∙ ap (unread (drop j ts)) (sym (no-word s at a e w z)) ∙ i .told)
+
+    module _ (z : a ≡ e → ⊥) where
+      told-next : unread (t ∷ drop (suc j) ts) (part s a e ∷ words (drop e s)) ≡ unread ts (words (drop start s))
+      told-next =
+          ap (λ (x : List ℕ). unread x (part s a e ∷ words (drop e s))) (sym next)
+          ∙ ap (unread (drop j ts)) (sym (one-word s at a e w z))
+          ∙ i .told
+
+      pub not-read : (p : List ℕ) → argument t (part s a e) ≡ Nothing → Arguments ts s l d (words (drop start s)) t at m p
+      unfolding unread
+      not-read p r = unread-here m p (sym (given-no _ _ _ r) ∙ told-next)
+
+      pub read-on : (v : ℕ) (p : List ℕ) → argument t (part s a e) ≡ Number v → p ≡ octetsAs t (part s a e) n → length p ≡ length n → Filling ts s l d start e (j + 1) (set m (36 + j) v) p
+      unfolding unread argumentValues argumentOctets
+      read-on v p r q y =
+          let o = one-word s at a e w z in
+          let up : drop (j + 1) ts ≡ drop (suc j) ts = ap (λ (f : ℕ). drop f ts) (add-one j) in
+          let f : 36 + (j + 1) ≡ 36 + j + 1 = omega arith in
+          let g : length ts - j ≡ suc (length ts - (j + 1)) = omega arith in
+          record {
+            within = w .within;
+            most = omega arith;
+            as-long = length-set m (36 + j) v ∙ i .as-long;
+            as-many = y ∙ i .as-many;
+            told = ap (λ (f : List ℕ). unread f (words (drop e s))) up ∙ sym (given-yes _ _ _ v r) ∙ told-next;
+            values =
+                ap (λ (c : List ℕ). argumentValues (36 + (j + 1)) c (words (drop e s)) (set m (36 + j) v)) up
+                ∙ ap (λ (c : ℕ). argumentValues c (drop (suc j) ts) (words (drop e s)) (set m (36 + j) v)) f
+                ∙ ap (λ (c : ℕ). argumentValues (36 + j + 1) (drop (suc j) ts) (words (drop e s)) (set m (36 + j) c)) (sym (given-yes _ (λ (c : ℕ). c) 0 v r))
+                ∙ ap (λ (c : List ℕ). argumentValues (36 + j) c (part s a e ∷ words (drop e s)) m) (sym next)
+                ∙ ap (λ (c : List (List ℕ)). argumentValues (36 + j) (drop j ts) c m) (sym o)
+                ∙ i .values;
+            octets =
+                ap (λ (c : List ℕ). argumentOctets c (words (drop e s)) p) up
+                ∙ ap (argumentOctets (drop (suc j) ts) (words (drop e s))) q
+                ∙ ap (λ (c : List ℕ). argumentOctets c (part s a e ∷ words (drop e s)) n) (sym next)
+                ∙ ap (λ (c : List (List ℕ)). argumentOctets (drop j ts) c n) (sym o)
+                ∙ i .octets;
+            follows =
+                ap (λ (c : ℕ). drop c (part s a e ∷ words (drop e s))) (sym g)
+                ∙ ap (drop (length ts - j)) (sym o)
+                ∙ i .follows;
+          }
