@@ -7,3 +7,5 @@ pub mod Datagrams
 pub mod Options
 pub mod Forms
 pub mod Fillings
+pub mod Bounds
+pub mod Calls

@@ -5,3 +5,4 @@ pub mod Waiting
 pub mod Datagram
 pub mod Option
 pub mod Argument
+pub mod Call

@@ -1,0 +1,164 @@
+-- A call by its name, and a line: what each way through gives. Assumes nothing.
+use mathlib.Core.Path.{_≡_, refl, sym, ap, _∙_}
+use mathlib.Core.List.{List, [], _∷_, _++_}
+use Prim.Native.Nat.{ℕ, _+_, _≤_, _<_}
+use native.Mathlib.Omega.{arith}
+use borrow.Author.Tests.{lt-ltb, le-ltb, eq-eqb, ne-eqb}
+use lib.Dec.{eqb}
+use lib.ListN.{length, take, drop, getD, drop-of-length-le}
+use Rattle.octets.specs.Pick.{pick}
+use Rattle.octets.proofs.Picks.{pick-t, pick-f}
+use Rattle.octets.proofs.Writes.{stores, stores-written, written-front}
+use Rattle.text.specs.Run.{run, other}
+use Rattle.text.specs.Name.{ascii, place}
+use Rattle.text.specs.Split.{parts, notEmpty, blank, grown, words, part, WordAt}
+use Rattle.text.proofs.Splits.{no-word, one-word}
+use Rattle.lines.specs.declared.Expected.{Expected}
+use Rattle.lines.specs.declared.Expected.the-variants as Expected
+use Rattle.lines.specs.declared.Read.{Read}
+use Rattle.lines.specs.declared.Read.the-variants as Read
+use Rattle.lines.specs.declared.option.Took.{Took}
+use Rattle.lines.specs.declared.option.Took.the-variants.{Taken, Unknown, Unreadable}
+use Rattle.lines.specs.Argument.{names, form, unread, argumentValues, argumentOctets, Arguments}
+use Rattle.lines.specs.Option.{optionsTook, optionsValues, optionsNumbers, Ran}
+use Rattle.lines.specs.Call.{expectedWord, optioned, ends, unsaid, argumentsOf, optionsOf, readNamed, readWords, wordsOf, readLine, valuesOf, callOf, octetsOf, Fit, Named, nameOf, after, Line}
+use Rattle.lines.proofs.Forms.{getD-under}
+use Rattle.lines.proofs.Bounds.{Held, held-options, held-form, fit}
+
+pub call-names : words (ascii "begin pass iq status datagram take close missing discontinuity stalled state open") ≡ names
+unfolding words parts notEmpty blank grown
+call-names = refl
+
+-- eight stores in a list of eight are the list
+pub eight-stores : (l : List ℕ) (a b c d e f g h : ℕ) → length l ≡ 8
+    → stores l 0 (a ∷ b ∷ c ∷ d ∷ e ∷ f ∷ g ∷ h ∷ []) ≡ a ∷ b ∷ c ∷ d ∷ e ∷ f ∷ g ∷ h ∷ []
+eight-stores l a b c d e f g h n =
+    let out = a ∷ b ∷ c ∷ d ∷ e ∷ f ∷ g ∷ h ∷ [] in
+    stores-written l 0 out (omega arith) ∙ written-front l out 8 refl ∙ ap (λ (x : List ℕ). out ++ x) (drop-of-length-le l {i = 8} (omega arith))
+
+module _ (name ip port : ℕ) (s l d n : List ℕ) (ws : List (List ℕ)) (u : l ≡ unsaid) (r at : ℕ) (m e : List ℕ) (g : Arguments (form name) s l d ws r at m e) where
+  pub not-read : (r ≡ 6 → ⊥) → (c x y : List ℕ) → Named name ip port d n ws (Read.Unread (expectedWord r)) c x y
+  unfolding readNamed
+  not-read h c x y =
+      record {
+        told =
+            ap (λ (k : ℕ). Read.Unread (expectedWord k)) (g .told)
+            ∙ sym (pick-f _ _ _ (ne-eqb _ _ (λ q. h (g .told ∙ q))));
+        call = λ q. let z : _≡_ {A = ℕ} 0 1 = cc in absurd (omega arith);
+        octets = λ q. let z : _≡_ {A = ℕ} 0 1 = cc in absurd (omega arith);
+        numbers = λ q. let z : _≡_ {A = ℕ} 0 1 = cc in absurd (omega arith);
+        fit = λ q. let z : _≡_ {A = ℕ} 0 1 = cc in absurd (omega arith);
+      }
+
+  module _ (h : r ≡ 6) (to : ℕ) (k : to ≡ getD ends name 0) (q : Took) (m2 n2 : List ℕ) (o : Ran 13 to m n (words (drop at s)) q m2 n2) where
+    values-here : m ≡ argumentsOf name ws
+    values-here = g .values h ∙ ap (argumentValues 36 (form name) ws) u
+
+    told-here : optioned q Expected.End (pick (eqb name 10) Read.State Read.Call) ≡ readNamed name ws
+    unfolding readNamed
+    told-here =
+        ap (λ (x : Took). optioned x Expected.End (pick (eqb name 10) Read.State Read.Call))
+        (o .told
+        ∙ ap (λ (x : ℕ). optionsTook 13 x m (words (drop at s))) k
+        ∙ ap (λ (x : List ℕ). optionsTook 13 (getD ends name 0) x (words (drop at s))) values-here
+        ∙ ap (optionsTook 13 (getD ends name 0) (argumentsOf name ws)) (g .follows h))
+        ∙ sym (pick-t _ _ _ (eq-eqb _ _ (sym (g .told) ∙ h)))
+
+    stopped : (x : Read) → (x ≡ Read.Call → ⊥) → x ≡ readNamed name ws → (c y z : List ℕ) → Named name ip port d n ws x c y z
+    stopped x f t c y z = record { told = t; call = λ q. absurd (f q); octets = λ q. absurd (f q); numbers = λ q. absurd (f q); fit = λ q. absurd (f q) }
+
+    pub unknown-word : q ≡ Unknown → (c y z : List ℕ) → Named name ip port d n ws (Read.Unread Expected.End) c y z
+    unfolding optioned
+    unknown-word t c y z = stopped _ (λ q. let z : _≡_ {A = ℕ} 0 1 = cc in omega arith) (rw t at told-here) c y z
+
+    pub unread-value : (j : ℕ) → q ≡ Unreadable j → (c y z : List ℕ) → Named name ip port d n ws (Read.Unread (Expected.ValueOf j)) c y z
+    unfolding optioned
+    unread-value j t c y z = stopped _ (λ q. let z : _≡_ {A = ℕ} 0 1 = cc in omega arith) (rw t at told-here) c y z
+
+    module _ (t : q ≡ Taken) where
+      pub state : name ≡ 10 → (c y z : List ℕ) → Named name ip port d n ws Read.State c y z
+      unfolding optioned
+      state f c y z = stopped _ (λ q. let z : _≡_ {A = ℕ} 0 1 = cc in omega arith) (sym (pick-t _ _ _ (eq-eqb name 10 f)) ∙ (rw t at told-here)) c y z
+
+      values-then : m2 ≡ valuesOf name ws
+      unfolding valuesOf
+      values-then = o .values t ∙ ap (λ (x : List ℕ). optionsValues x (words (drop at s))) values-here ∙ ap (optionsValues (argumentsOf name ws)) (g .follows h)
+
+      pub held : Held name m2
+      held =
+          let b : to ≤ 18 = omega (arith, getD-under 19 ends (omega arith) tt name) in
+          let a : optionsTook 13 to (argumentsOf name ws) (words (drop at s)) ≡ Taken =
+          ap (λ (x : List ℕ). optionsTook 13 to x (words (drop at s))) (sym values-here) ∙ sym (o .told) ∙ t in
+          let v : optionsValues (argumentsOf name ws) (words (drop at s)) ≡ m2 = sym (o .values t ∙ ap (λ (x : List ℕ). optionsValues x (words (drop at s))) values-here) in
+          rw v at (held-options name 13 to (words (drop at s)) (argumentsOf name ws) b a (held-form name ws))
+
+      pub done : (name ≡ 10 → ⊥) → ip < 4294967296 → (c y : List ℕ) → c ≡ callOf name ip port m2 → y ≡ octetsOf name m2 e → Named name ip port d n ws Read.Call c y n2
+      unfolding optioned
+      done f b c y p w =
+          record {
+            told = sym (pick-f _ _ _ (ne-eqb name 10 f)) ∙ (rw t at told-here);
+            call = λ q. p ∙ ap (callOf name ip port) values-then;
+            octets = λ q. w ∙ ap (λ (x : List ℕ). octetsOf name x e) values-then ∙ ap (octetsOf name (valuesOf name ws)) (g .octets h);
+            numbers = λ q. o .numbers t ∙ ap (optionsNumbers n) (g .follows h);
+            fit = λ q. rw p (fit name m2 held ip port b);
+          }
+
+-- ---- a line
+
+module _ (line : List ℕ) (ip port : ℕ) (d n c e m : List ℕ) where
+  no-call : (x : Read) → (x ≡ Read.Call → ⊥) → x ≡ readLine line → Line line ip port d n x c e m
+  no-call x f t = record { told = t; call = λ q. absurd (f q); octets = λ q. absurd (f q); numbers = λ q. absurd (f q); fit = λ q. absurd (f q) }
+
+  pub too-long : 16384 < length line → Line line ip port d n (Read.Unread Expected.ShorterLine) c e m
+  unfolding readLine
+  too-long h = no-call _ (λ q. let z : _≡_ {A = ℕ} 0 1 = cc in omega arith) (sym (pick-t _ _ _ (lt-ltb _ _ h)))
+
+  module _ (h : length line ≤ 16384) (s : List ℕ) (q : s ≡ take (run (other 35) line) line) (a z : ℕ) (w : WordAt s 0 a z) where
+    by-words : readWords (words s) ≡ readLine line
+    unfolding readLine
+    by-words = ap (λ (x : List ℕ). readWords (words x)) q ∙ sym (pick-f _ _ _ (le-ltb _ _ h))
+
+    pub nothing : a ≡ z → Line line ip port d n Read.Nothing c e m
+    unfolding readWords
+    nothing f = no-call _ (λ q. let z : _≡_ {A = ℕ} 0 1 = cc in omega arith) (ap readWords (sym (no-word s 0 a z w f)) ∙ by-words)
+
+    module _ (f : a ≡ z → ⊥) (name : ℕ) (k : name ≡ place (part s a z) names) where
+      first : words s ≡ part s a z ∷ words (drop z s)
+      first = one-word s 0 a z w f
+
+      pub opens : name ≡ 11 → Line line ip port d n Read.Open c e m
+      unfolding readWords
+      opens b = no-call _ (λ q. let z : _≡_ {A = ℕ} 0 1 = cc in omega arith) (sym (pick-t _ _ _ (eq-eqb _ _ (sym k ∙ b))) ∙ ap readWords (sym first) ∙ by-words)
+
+      pub not-a-call : 11 < name → Line line ip port d n (Read.Unread Expected.Call) c e m
+      unfolding readWords
+      not-a-call b =
+          no-call _ (λ q. let z : _≡_ {A = ℕ} 0 1 = cc in omega arith)
+          (sym (pick-f _ _ _ (ne-eqb (place (part s a z) names) 11 (λ v. omega arith)) ∙ pick-t _ _ _ (lt-ltb 11 (place (part s a z) names) (omega arith)))
+          ∙ ap readWords (sym first)
+          ∙ by-words)
+
+      pub called : name < 11 → (r : Read) → Named name ip port d n (words (drop z s)) r c e m → Line line ip port d n r c e m
+      unfolding readWords
+      called b r v =
+          let ws : wordsOf line ≡ part s a z ∷ words (drop z s) = ap words (sym q) ∙ first in
+          let x : name ≡ nameOf (wordsOf line) = k ∙ ap nameOf (sym ws) in
+          let y : words (drop z s) ≡ after (wordsOf line) = ap after (sym ws) in
+          record {
+            told =
+                v .told
+                ∙ ap (λ (i : ℕ). readNamed i (words (drop z s))) k
+                ∙ sym (pick-f _ _ _ (ne-eqb (place (part s a z) names) 11 (λ v. omega arith)) ∙ pick-f _ _ _ (le-ltb 11 (place (part s a z) names) (omega arith)))
+                ∙ ap readWords (sym first)
+                ∙ by-words;
+            call = λ t. v .call t ∙ ap (λ (i : ℕ). callOf i ip port (valuesOf i (words (drop z s)))) x ∙ ap (λ (i : List (List ℕ)). callOf (nameOf (wordsOf line)) ip port (valuesOf (nameOf (wordsOf line)) i)) y;
+            octets =
+                λ t. v .octets t
+                ∙ ap (λ (i : ℕ). octetsOf i (valuesOf i (words (drop z s))) (argumentOctets (form i) (words (drop z s)) d)) x
+                ∙ ap (λ (i : List (List ℕ)). octetsOf (nameOf (wordsOf line)) (valuesOf (nameOf (wordsOf line)) i) (argumentOctets (form (nameOf (wordsOf line))) i d)) y;
+            numbers =
+                λ t. v .numbers t
+                ∙ ap (λ (i : ℕ). optionsNumbers n (optionsOf i (words (drop z s)))) x
+                ∙ ap (λ (i : List (List ℕ)). optionsNumbers n (optionsOf (nameOf (wordsOf line)) i)) y;
+            fit = v .fit;
+          }

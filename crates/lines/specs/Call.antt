@@ -1,0 +1,168 @@
+-- A line: what it is, and what its call gives. Definitions only.
+use Prim.Native.Nat.{ℕ, _+_, _/_, _%_, _≤_, _<_}
+use mathlib.Core.Path.{_≡_}
+use mathlib.Core.List.{List, [], _∷_}
+use lib.Dec.{ltb, eqb}
+use lib.ListN.{length, take, drop, getD, replicate}
+use Rattle.octets.specs.Pick.{pick}
+use Rattle.octets.specs.Written.{written}
+use Rattle.text.specs.Run.{run, other}
+use Rattle.text.specs.Name.{place}
+use Rattle.text.specs.Split.{words}
+use Rattle.lines.specs.declared.Expected.{Expected}
+use Rattle.lines.specs.declared.Expected.the-variants as Expected
+use Rattle.lines.specs.declared.Read.{Read}
+use Rattle.lines.specs.declared.Read.the-variants as Read
+use Rattle.lines.specs.declared.option.Took.{Took}
+use Rattle.lines.specs.declared.option.Took.the-variants.{Taken, Unknown, Unreadable}
+use Rattle.lines.specs.Argument.{names, form, unread, argumentValues, argumentOctets}
+use Rattle.lines.specs.Option.{said, optionsTook, optionsValues, optionsNumbers}
+use Rattle.lines.specs.Datagram.{iqOctets, statusOctets}
+
+-- ---- what the line is
+
+unfoldable pub expectedWord : ℕ → Expected
+expectedWord t =
+    pick (eqb t 0) Expected.Reading
+    (pick (eqb t 1) Expected.DatagramNumber
+    (pick (eqb t 2) Expected.Octet
+    (pick (eqb t 3) Expected.Places
+    (pick (eqb t 4) Expected.Sender
+    Expected.Octets))))
+
+-- a run of options, where an unknown word is answered by e
+unfoldable pub optioned : Took → Expected → Read → Read
+optioned Taken e r = r
+optioned Unknown e r = Read.Unread e
+optioned (Unreadable k) e r = Read.Unread (Expected.ValueOf k)
+
+-- a call has the keys from 13 on, up to its own here
+abbrev pub ends : List ℕ
+ends = 13 ∷ 14 ∷ 18 ∷ 15 ∷ 15 ∷ 13 ∷ 14 ∷ 13 ∷ 13 ∷ 13 ∷ 13 ∷ 13 ∷ []
+
+-- no value is said yet
+abbrev pub unsaid : List ℕ
+unsaid = replicate 40 0
+
+abbrev pub argumentsOf : ℕ → List (List ℕ) → List ℕ
+argumentsOf name ws = argumentValues 36 (form name) ws unsaid
+
+abbrev pub optionsOf : ℕ → List (List ℕ) → List (List ℕ)
+optionsOf name ws = drop (length (form name)) ws
+
+unfoldable pub readNamed : ℕ → List (List ℕ) → Read
+readNamed name ws =
+    pick (eqb (unread (form name) ws) 6)
+    (optioned (optionsTook 13 (getD ends name 0) (argumentsOf name ws) (optionsOf name ws)) Expected.End
+    (pick (eqb name 10) Read.State Read.Call))
+    (Read.Unread (expectedWord (unread (form name) ws)))
+
+unfoldable pub readWords : List (List ℕ) → Read
+readWords [] = Read.Nothing
+readWords (w ∷ ws) =
+    pick (eqb (place w names) 11) Read.Open
+    (pick (ltb 11 (place w names)) (Read.Unread Expected.Call)
+    (readNamed (place w names) ws))
+
+-- without its comment
+abbrev pub wordsOf : List ℕ → List (List ℕ)
+wordsOf line = words (take (run (other 35) line) line)
+
+unfoldable pub readLine : List ℕ → Read
+readLine line = pick (ltb 16384 (length line)) (Read.Unread Expected.ShorterLine) (readWords (wordsOf line))
+
+-- ---- what its call gives
+
+-- the values of a call's words: place k that of key k, places 36 and on those of its form
+unfoldable pub valuesOf : ℕ → List (List ℕ) → List ℕ
+valuesOf name ws = optionsValues (argumentsOf name ws) (optionsOf name ws)
+
+-- a key's value, or what it is where it is left out
+unfoldable pub orElse : List ℕ → ℕ → ℕ → ℕ
+orElse l key other = pick (said l key) (getD l key 0) other
+
+abbrev pub kinds : List ℕ
+kinds = 0 ∷ 1 ∷ 2 ∷ 2 ∷ 2 ∷ 3 ∷ 4 ∷ 5 ∷ 6 ∷ 7 ∷ 0 ∷ 0 ∷ []
+
+-- the packet buffer that a call needs
+abbrev pub buffers : List ℕ
+buffers = 0 ∷ 4452 ∷ 1444 ∷ 1444 ∷ 1444 ∷ 0 ∷ 2888 ∷ 0 ∷ 0 ∷ 0 ∷ 0 ∷ 0 ∷ []
+
+unfoldable pub laterOf : ℕ → List ℕ → ℕ
+laterOf name l = pick (eqb name 5) 0 (getD l 37 0)
+
+unfoldable pub addressOf : ℕ → ℕ → List ℕ → ℕ
+addressOf name ip l = pick (eqb name 4) (getD l 38 0 / 65536) (pick (eqb name 2) ip (pick (eqb name 3) ip 0))
+
+unfoldable pub portOf : ℕ → ℕ → List ℕ → ℕ
+portOf name port l =
+    pick (eqb name 4) (getD l 38 0 % 65536)
+    (pick (eqb name 2) ((port + 11) % 65536)
+    (pick (eqb name 3) ((port + 1) % 65536)
+    0))
+
+unfoldable pub countOf : ℕ → List ℕ → ℕ
+countOf name l = pick (eqb name 2) (orElse l 15 1444) (pick (eqb name 3) 60 (pick (eqb name 4) (getD l 39 0) 0))
+
+unfoldable pub placesOf : ℕ → List ℕ → ℕ
+placesOf name l = pick (eqb name 5) (getD l 37 0) (orElse l 13 (getD buffers name 0))
+
+-- the call as eight numbers: kind, reading, later reading, the sender's address and port, octets, waiting numbers, places
+unfoldable pub callOf : ℕ → ℕ → ℕ → List ℕ → List ℕ
+callOf name ip port l =
+    getD kinds name 0
+    ∷ getD l 36 0
+    ∷ laterOf name l
+    ∷ addressOf name ip l
+    ∷ portOf name port l
+    ∷ countOf name l
+    ∷ getD l 14 0
+    ∷ placesOf name l
+    ∷ []
+
+-- the lent octets after it: those of `datagram` are written as they are read
+unfoldable pub octetsOf : ℕ → List ℕ → List ℕ → List ℕ
+octetsOf name l d =
+    pick (eqb name 2) (written d 0 (iqOctets (getD l 38 0) (orElse l 16 24) (orElse l 17 238)))
+    (pick (eqb name 3) (written d 0 (statusOctets (getD l 38 0)))
+    d)
+
+-- what the octets of a datagram are made from fits their fields
+abbrev pub Small : ℕ → List ℕ → Type 0
+Small name l =
+    (name ≡ 2 → getD l 38 0 < 4294967296) × (name ≡ 3 → getD l 38 0 < 256) × (orElse l 16 24 < 65536) × (orElse l 17 238 < 65536)
+
+-- what a caller can go by: the kind, the address, the port, and lengths within the lent buffers
+pub record Fit (c : List ℕ) : Type 0 where
+  pub kind : getD c 0 0 ≤ 7
+  pub address : getD c 3 0 ≤ 4294967296
+  pub port : getD c 4 0 < 65536
+  pub octets : getD c 5 0 ≤ 2048
+  pub waiting : getD c 6 0 ≤ 8193
+  pub places : getD c 7 0 ≤ 8192
+
+-- the words ws of a call's name were read as r, and the lent buffers are then c, e and m
+pub record Named (name ip port : ℕ) (d n : List ℕ) (ws : List (List ℕ)) (r : Read) (c e m : List ℕ) : Type 0 where
+  pub told : r ≡ readNamed name ws
+  pub call : r ≡ Read.Call → c ≡ callOf name ip port (valuesOf name ws)
+  pub octets : r ≡ Read.Call → e ≡ octetsOf name (valuesOf name ws) (argumentOctets (form name) ws d)
+  pub numbers : r ≡ Read.Call → m ≡ optionsNumbers n (optionsOf name ws)
+  pub fit : r ≡ Read.Call → Fit c
+
+-- the first word's name, and the words after it
+abbrev pub nameOf : List (List ℕ) → ℕ
+nameOf [] = 0
+nameOf (w ∷ ws) = place w names
+
+abbrev pub after : List (List ℕ) → List (List ℕ)
+after [] = []
+after (w ∷ ws) = ws
+
+pub record Line (line : List ℕ) (ip port : ℕ) (d n : List ℕ) (r : Read) (c e m : List ℕ) : Type 0 where
+  pub told : r ≡ readLine line
+  pub call : r ≡ Read.Call → c ≡ callOf (nameOf (wordsOf line)) ip port (valuesOf (nameOf (wordsOf line)) (after (wordsOf line)))
+  pub octets :
+      r ≡ Read.Call
+      → e ≡ octetsOf (nameOf (wordsOf line)) (valuesOf (nameOf (wordsOf line)) (after (wordsOf line))) (argumentOctets (form (nameOf (wordsOf line))) (after (wordsOf line)) d)
+  pub numbers : r ≡ Read.Call → m ≡ optionsNumbers n (optionsOf (nameOf (wordsOf line)) (after (wordsOf line)))
+  pub fit : r ≡ Read.Call → Fit c
