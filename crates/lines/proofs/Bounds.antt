@@ -40,7 +40,7 @@ pub record Held (name : ℕ) (l : List ℕ) : Type 0 where
   pub options : (k : ℕ) → k < 18 → getD l k 0 ≤ getD limits k 0
   pub words : (j : ℕ) → j < 4 → getD l (36 + j) 0 ≤ getD most (getD (form name) j 0) 0
 
-held-unsaid : (name : ℕ) → Held name unsaid
+pub held-unsaid : (name : ℕ) → Held name unsaid
 held-unsaid name =
     record {
       options = λ k h. omega (arith, getD-replicate {A = ℕ} 40 k 0 0 (omega arith));
@@ -116,7 +116,7 @@ held-form name ws = held-arguments name (form name) ws 0 unsaid (λ i. ap (λ (x
 
 -- ---- what the limits give
 
-or-else-most : (l : List ℕ) (key other b : ℕ) → getD l key 0 ≤ b → other ≤ b → orElse l key other ≤ b
+pub or-else-most : (l : List ℕ) (key other b : ℕ) → getD l key 0 ≤ b → other ≤ b → orElse l key other ≤ b
 unfolding orElse
 or-else-most l key other b h o = pick-either _ _ _ (λ x. x ≤ b) (λ t. h) (λ f. o)
 

@@ -9,3 +9,4 @@ pub mod Forms
 pub mod Fillings
 pub mod Bounds
 pub mod Calls
+pub mod Openings

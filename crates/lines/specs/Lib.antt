@@ -6,3 +6,4 @@ pub mod Datagram
 pub mod Option
 pub mod Argument
 pub mod Call
+pub mod Open

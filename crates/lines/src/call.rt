@@ -13,7 +13,7 @@ use super::option::Took;
 use super::option::options;
 
 // A call is its place here.
-const NAMES: [u8; 81] =
+pub(crate) const NAMES: [u8; 81] =
     *b"begin pass iq status datagram take close missing discontinuity stalled state open";
 
 // The keys from 13 on are the calls'; a call has those up to its own here.

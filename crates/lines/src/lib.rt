@@ -1,12 +1,15 @@
 // A line of a list of calls, read (docs/CALLS.md). What can't be read gives what was expected.
-ghost use Prim.Native.Nat.{ℕ};
+ghost use mathlib.Core.Path.{_≡_};
 ghost use Rattle.lines.specs.Call.{Line};
+ghost use Rattle.lines.specs.Open.{openingOf};
+use account::settings::Settings;
 
 mod address;
 mod argument;
 mod call;
 mod datagram;
 mod hexadecimal;
+mod open;
 pub mod option;
 mod reading;
 mod waiting;
@@ -52,4 +55,21 @@ pub fn read_call(
 {
     let mut values = [0u64; 40];
     call::read_line(line, radio_ip, port, &mut values, call, octets, numbers)
+}
+
+// What an `open` asks for. One that can't be read has the settings of an `open` that says none.
+pub struct Opening {
+    pub read: Read,
+    // the opening reading
+    pub at: u64,
+    pub settings: Settings,
+}
+
+// Reads a line whose first word is `open`; another is told to be none.
+pub fn read_open(line: &[u8]) -> Opening
+    ensures { λ r. ⌜ r ≡ openingOf (now (line .entry)) ⌝ }
+{
+    let mut values = [0u64; 40];
+    let mut numbers = [0u32; 8193];
+    open::read_settings(line, &mut values, &mut numbers)
 }
