@@ -1,0 +1,66 @@
+// What the program writes, gathered in a buffer and written out where it is full.
+ghost use Prim.Native.Nat.{_+_, _≤_};
+ghost use lib.ListN.{length};
+use libc::STDOUT_FILENO;
+
+pub(crate) const ROOM: usize = 65536;
+
+// The first `at` octets are still to be written.
+pub(crate) fn flush(out: &[u8; ROOM], at: usize) {
+    let all = &out[..];
+    if at <= ROOM {
+        io::write_all(STDOUT_FILENO, &all[0..at]);
+    }
+}
+
+fn copy(out: &mut [u8], at: usize, s: &[u8])
+    requires { ⌜ at + length (now s) ≤ length (now out) ⌝ }
+{
+    let mut i = 0;
+    while i < s.len() {
+        out[at + i] = s[i];
+        i += 1;
+    }
+}
+
+// Behind the first `at` octets; where they end then.
+pub(crate) fn put(out: &mut [u8; ROOM], at: usize, s: &[u8]) -> usize {
+    if s.len() > ROOM {
+        return at;
+    }
+    if at <= ROOM - s.len() {
+        copy(out, at, s);
+        return at + s.len();
+    }
+    flush(out, at);
+    copy(out, 0, s);
+    s.len()
+}
+
+pub(crate) fn number(out: &mut [u8; ROOM], at: usize, n: u64) -> usize {
+    let mut text = [0u8; 20];
+    let k = io::decimal(n, &mut text);
+    put(out, at, &text[..k])
+}
+
+// A word, and a number behind it.
+pub(crate) fn named(out: &mut [u8; ROOM], at: usize, name: &[u8], n: u64) -> usize {
+    let end = put(out, at, name);
+    number(out, end, n)
+}
+
+// The digest of eight digits.
+pub(crate) fn digest(out: &mut [u8; ROOM], at: usize, d: u32) -> usize {
+    let mut text = [0u8; 16];
+    let k = io::hex(d as u64, 8, &mut text);
+    let end = put(out, at, b" digest ");
+    put(out, end, &text[..k])
+}
+
+pub(crate) fn yes(out: &mut [u8; ROOM], at: usize, b: bool) -> usize {
+    if b {
+        put(out, at, b"yes")
+    } else {
+        put(out, at, b"no")
+    }
+}
