@@ -4,7 +4,15 @@ RT := $(shell command -v rt 2>/dev/null || { [ -n "$$RATTLE_HOME" ] && echo "$$R
 MANTA_SRC ?= $(wildcard ../shared/docs/src)
 export MANTA_SRC
 
-.PHONY: test vectors oracle compare changes bench
+.PHONY: run test vectors oracle compare changes bench
+# Proves and builds the program `calls` where that is not done yet, and runs a list of calls through it: its answers, and its
+# account at the end.
+LIST ?= lists/first.calls
+run:
+	@[ -n "$(RT)" ] || { echo "make run: no rt on the PATH, and RATTLE_HOME is not set" >&2; exit 1; }
+	@log=$$(mktemp); $(RT) check calls > $$log 2>&1 || { cat $$log; rm -f $$log; exit 1; }; rm -f $$log
+	@target/bin/calls "$(LIST)"
+
 # Proves every crate from nothing, tries every must-fail edit, runs every program, and then the oracle's own tests and the
 # comparison of the program `calls` with the Rust.
 test:

@@ -18,7 +18,6 @@ use super::stretches::TABLE;
 use account::session::Session;
 use account::settings::SettingsAnswer;
 use lines::Expected;
-use lines::Opening;
 use lines::Read;
 use lines::read_call;
 use lines::read_open;

@@ -1,6 +1,5 @@
 // The account of a session, from its calls and their answers as numbers (replay).
 ghost use Prim.Native.Nat.{_*_, _≤_, _<_};
-ghost use lib.ListN.{length};
 use super::output::ROOM;
 use super::output::named;
 use super::output::put;

@@ -19,9 +19,9 @@ use Rattle.lines.specs.declared.Read.{Read}
 use Rattle.lines.specs.declared.Read.the-variants as Read
 use Rattle.lines.specs.declared.option.Took.{Took}
 use Rattle.lines.specs.declared.option.Took.the-variants.{Taken, Unknown, Unreadable}
-use Rattle.lines.specs.Argument.{names, form, unread, argumentValues, argumentOctets, Arguments}
+use Rattle.lines.specs.Argument.{names, form, argumentValues, argumentOctets, Arguments}
 use Rattle.lines.specs.Option.{optionsTook, optionsValues, optionsNumbers, Ran}
-use Rattle.lines.specs.Call.{expectedWord, optioned, ends, unsaid, argumentsOf, optionsOf, readNamed, readWords, wordsOf, readLine, valuesOf, callOf, octetsOf, Fit, Named, nameOf, after, Line}
+use Rattle.lines.specs.Call.{expectedWord, optioned, ends, unsaid, argumentsOf, optionsOf, readNamed, readWords, wordsOf, readLine, valuesOf, callOf, octetsOf, Named, nameOf, after, Line}
 use Rattle.lines.proofs.Forms.{getD-under}
 use Rattle.lines.proofs.Bounds.{Held, held-options, held-form, fit}
 

@@ -1,12 +1,11 @@
 -- `open`: patterns of doubles, and what each way through gives. Assumes nothing.
 use mathlib.Core.Path.{_≡_, refl, sym, ap, _∙_}
 use mathlib.Core.Bool.{true, not}
-use mathlib.Core.List.{List, [], _∷_}
+use mathlib.Core.List.{List}
 use Prim.Native.Nat.{ℕ, _%_, _≤_, _<_}
 use native.Mathlib.Omega.{arith}
 use borrow.Author.Tests.{lt-ltb, le-ltb, eq-eqb, ne-eqb}
 use lib.Dec.{T}
-use lib.IntN.{pos}
 use lib.Ieee.{Float, nan, inf, fin, binary64, ofInt, ofBits, toBits, isNan, nanBits, div, round}
 use lib.Ieee.Bits.{nanBits-is, nanBits-above}
 use lib.ListN.{length, take, drop}
@@ -22,9 +21,9 @@ use Rattle.lines.specs.declared.option.Took.{Took}
 use Rattle.lines.specs.declared.option.Took.the-variants.{Taken, Unknown, Unreadable}
 use Rattle.lines.specs.Argument.{names}
 use Rattle.lines.specs.Option.{optionsTook, optionsValues, Ran}
-use Rattle.lines.specs.Call.{unsaid, wordsOf, orElse}
+use Rattle.lines.specs.Call.{unsaid, orElse}
 use Rattle.lines.specs.Open.{bitsOf, settingsOf, Within, unreadOpening, opened, openedBy, openWords, openingOf}
-use Rattle.lines.proofs.Bounds.{Held, held-unsaid, held-options}
+use Rattle.lines.proofs.Bounds.{held-unsaid, held-options}
 
 -- ---- doubles
 

@@ -6,12 +6,11 @@ use native.Mathlib.Omega.{arith}
 use borrow.Author.Tests.{lt-ltb, le-ltb, le-leb, lt-leb, eq-eqb, ne-eqb}
 use mathlib.Core.Bool.{false}
 use lib.Dec.{eqb}
-use lib.ListN.{length, take, drop, getD, set}
+use lib.ListN.{length, drop, getD, set}
 use Rattle.octets.proofs.Picks.{pick-t, pick-f}
-use Rattle.text.specs.Run.{run, other}
-use Rattle.text.specs.Name.{ascii, named, place}
+use Rattle.text.specs.Run.{run}
+use Rattle.text.specs.Name.{ascii, named}
 use Rattle.text.specs.Split.{parts, notEmpty, blank, grown, words, part, WordAt}
-use Rattle.text.specs.declared.Spelt.{Spelt}
 use Rattle.text.specs.declared.Spelt.the-variants.{Number, Nothing}
 use Rattle.text.proofs.Splits.{no-word, one-word}
 use Rattle.lines.specs.declared.option.Took.{Took}

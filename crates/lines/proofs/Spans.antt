@@ -3,7 +3,7 @@ use mathlib.Core.Path.{_≡_, refl, sym, ap, _∙_}
 use mathlib.Core.Bool.{Bool, true, false}
 use mathlib.Core.List.{List, [], _∷_, _++_, append-nil, append-assoc}
 use mathlib.Core.Logic.{⊎-elim}
-use Prim.Native.Nat.{ℕ, suc, _+_, _-_, _≤_, _<_}
+use Prim.Native.Nat.{ℕ, _+_, _-_, _≤_, _<_}
 use native.Mathlib.Nat.{eq-or-lt-of-le}
 use native.Mathlib.Numerals.{add-one}
 use native.Mathlib.Omega.{arith}
@@ -21,7 +21,6 @@ use Rattle.text.specs.Split.{parts, part}
 use Rattle.text.specs.declared.Spelt.{Spelt}
 use Rattle.text.specs.declared.Spelt.the-variants.{Number, Nothing}
 use Rattle.text.proofs.Splits.{last-part, next-part}
-use Rattle.lines.specs.declared.waiting.Span.{Span}
 use Rattle.lines.specs.declared.waiting.Span.the-variants.{Numbers, Neither}
 use Rattle.lines.specs.Value.{given, number}
 use Rattle.lines.specs.Waiting.{from, spanAt, spanOf, givenSpan, countAfter, numbersOf, waitingCount, waitingNumbers}

@@ -11,7 +11,7 @@ use Rattle.text.specs.Run.{run, other}
 use Rattle.text.specs.Name.{ascii, named, place, same}
 use Rattle.text.specs.Number.{digitsOf}
 use Rattle.text.specs.declared.Spelt.{Spelt}
-use Rattle.text.specs.declared.Spelt.the-variants.{Number, Nothing}
+use Rattle.text.specs.declared.Spelt.the-variants.{Number}
 use Rattle.lines.specs.declared.option.Took.{Took}
 use Rattle.lines.specs.declared.option.Took.the-variants.{Taken, Unknown, Unreadable}
 use Rattle.lines.specs.Value.{given, upTo, number, reading, double, ipv4}

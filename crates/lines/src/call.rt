@@ -1,7 +1,7 @@
 // A line's call: its name, then what stands after it.
 ghost use mathlib.Core.Path.{_≡_};
-ghost use Prim.Native.Nat.{ℕ, _≤_, _<_};
-ghost use lib.ListN.{length, drop, getD};
+ghost use Prim.Native.Nat.{_≤_, _<_};
+ghost use lib.ListN.{length, drop};
 ghost use Rattle.text.specs.Split.{words};
 ghost use Rattle.lines.specs.Call as Call;
 use super::Expected;

@@ -1,8 +1,6 @@
 -- `calls::digest::of_samples` is safe and ends. Assumes nothing.
 use Prim.Native.Nat.{_+_, _-_, _*_, _≤_}
-use mathlib.Core.Path.{_≡_}
-use lib.ListN.{length, length-set}
-use native.Mathlib.Omega.{arith}
+use lib.ListN.{length}
 use borrow.Author.Needs.{needs}
 use Rattle.calls.proofs.digest.of_samples.Statement.{statement}
 use Rattle.calls.proofs.digest.of_samples.Tie as tie

@@ -1,8 +1,5 @@
 -- `calls::stretches::total` is safe and ends. Assumes nothing.
-use Prim.Native.Nat.{_+_, _-_, _*_, _≤_}
-use mathlib.Core.Path.{_≡_}
-use lib.ListN.{length, length-set}
-use native.Mathlib.Omega.{arith}
+use Prim.Native.Nat.{_-_, _≤_}
 use borrow.Author.Needs.{needs}
 use Rattle.calls.proofs.stretches.total.Statement.{statement}
 use Rattle.calls.proofs.stretches.total.Tie as tie

@@ -1,5 +1,5 @@
 -- `lines::call::address_of`: the sender's address. Assumes nothing.
-use mathlib.Core.Path.{refl, sym, ap, _∙_}
+use mathlib.Core.Path.{sym, _∙_}
 use borrow.Author.Tests.{eq-eqb, ne-eqb}
 use Rattle.octets.proofs.Picks.{pick-t, pick-f}
 use Rattle.lines.specs.Call.{addressOf}

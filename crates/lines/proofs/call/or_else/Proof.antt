@@ -1,5 +1,5 @@
 -- `lines::call::or_else` goes by whether the key was said. Assumes nothing.
-use mathlib.Core.Path.{refl, sym, ap, _∙_}
+use mathlib.Core.Path.{sym}
 use borrow.Author.Tests.{eq-eqb, ne-eqb}
 use Rattle.octets.proofs.Picks.{pick-t, pick-f}
 use Rattle.lines.specs.Call.{orElse}

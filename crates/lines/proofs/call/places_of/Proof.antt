@@ -1,5 +1,5 @@
 -- `lines::call::places_of`: the places of a take, or the packet buffer. Assumes nothing.
-use mathlib.Core.Path.{refl, sym, ap, _∙_}
+use mathlib.Core.Path.{sym, _∙_}
 use borrow.Author.Tests.{eq-eqb, ne-eqb}
 use Rattle.octets.proofs.Picks.{pick-t, pick-f}
 use Rattle.lines.specs.Call.{placesOf}

@@ -1,5 +1,5 @@
 -- `lines::call::put_call` stores the eight numbers. Assumes nothing.
-use mathlib.Core.Path.{refl, _∙_}
+use mathlib.Core.Path.{_∙_}
 use lib.ListN.{length-set}
 use native.Mathlib.Omega.{arith}
 use Rattle.lines.specs.Call.{callOf}

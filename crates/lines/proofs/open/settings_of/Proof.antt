@@ -1,5 +1,4 @@
 -- `lines::open::settings_of` takes each setting from its key. Assumes nothing.
-use mathlib.Core.Path.{refl}
 use native.Mathlib.Omega.{arith}
 use Rattle.lines.specs.Open.{settingsOf}
 use Rattle.lines.proofs.Bounds.{or-else-most}
