@@ -5,26 +5,17 @@ use super::output::named;
 use super::output::put;
 use health::InputHealthCounters;
 use std::num::wrapping_add_u64;
-use std::num::wrapping_sub_u32;
+use tally::Stretch;
+use tally::Sums;
+use tally::first;
+use tally::more;
+use tally::plus;
 
 // The most stretches of a session.
 pub(crate) const STRETCHES: usize = 4096;
 
 // The numbers of as many stretches, six each.
 pub(crate) const TABLE: usize = 24576;
-
-// It begins with the session's first arrival, or with one told Restart.
-pub(crate) struct Stretch {
-    // the first arrival's reading and number, and the missing that was told with it
-    at: u64,
-    first: u64,
-    restart: u64,
-    // counted on from the first, past 2^32
-    highest: u64,
-    samples: u64,
-    // told after the first arrival
-    missing: u64,
-}
 
 pub(crate) struct Account {
     // the last of them is not in the table yet
@@ -46,30 +37,6 @@ pub(crate) fn none() -> Account {
         stretches: 0,
         last,
         handed: 0,
-    }
-}
-
-// An accepted arrival more of the same stretch.
-fn more(s: Stretch, number: u32, missing: u64) -> Stretch {
-    let step = wrapping_sub_u32(number, (s.highest % 4294967296) as u32);
-    Stretch {
-        at: s.at,
-        first: s.first,
-        restart: s.restart,
-        highest: wrapping_add_u64(s.highest, step as u64),
-        samples: wrapping_add_u64(s.samples, 238),
-        missing: wrapping_add_u64(s.missing, missing),
-    }
-}
-
-fn first(at: u64, number: u32, missing: u64) -> Stretch {
-    Stretch {
-        at,
-        first: number as u64,
-        restart: missing,
-        highest: number as u64,
-        samples: 238,
-        missing: 0,
     }
 }
 
@@ -178,21 +145,6 @@ fn put_stretch(out: &mut [u8; ROOM], at: usize, k: u64, s: Stretch) -> usize {
     let six = named(out, five, b" missing ", s.missing);
     let seven = named(out, six, b" restart ", s.restart);
     put(out, seven, b"\n")
-}
-
-// The sums over the stretches.
-struct Sums {
-    samples: u64,
-    missing: u64,
-    restart: u64,
-}
-
-fn plus(t: Sums, s: Stretch) -> Sums {
-    Sums {
-        samples: wrapping_add_u64(t.samples, s.samples),
-        missing: wrapping_add_u64(t.missing, s.missing),
-        restart: wrapping_add_u64(t.restart, s.restart),
-    }
 }
 
 fn total(table: &[u64; TABLE], n: usize) -> Sums

@@ -1,0 +1,68 @@
+// The account of a stretch, arrival by arrival, and the sums over stretches. Sums are modulo 2^64.
+ghost use mathlib.Core.Path.{_≡_};
+ghost use Rattle.tally.specs.Stretch.{firstOf, moreOf, plusOf};
+use std::num::wrapping_add_u64;
+use std::num::wrapping_sub_u32;
+
+// The samples of a datagram.
+const SAMPLES_PER_DATAGRAM: u64 = 238;
+
+// It begins with the session's first arrival, or with one told Restart.
+pub struct Stretch {
+    // the first arrival's reading and number
+    pub at: u64,
+    pub first: u64,
+    // the missing that was told with it
+    pub restart: u64,
+    // the highest number, counted on from the first, past 2^32
+    pub highest: u64,
+    // of accepted arrivals
+    pub samples: u64,
+    // told after the first arrival
+    pub missing: u64,
+}
+
+pub fn first(at: u64, number: u32, restart: u64) -> Stretch
+    ensures { λ r. ⌜ r ≡ firstOf at number restart ⌝ }
+{
+    Stretch {
+        at,
+        first: number as u64,
+        restart,
+        highest: number as u64,
+        samples: SAMPLES_PER_DATAGRAM,
+        missing: 0,
+    }
+}
+
+// An accepted arrival more, which is told in order or a gap.
+pub fn more(s: Stretch, number: u32, missing: u64) -> Stretch
+    ensures { λ r. ⌜ r ≡ moreOf s number missing ⌝ }
+{
+    let step = wrapping_sub_u32(number, (s.highest % 4294967296) as u32);
+    Stretch {
+        at: s.at,
+        first: s.first,
+        restart: s.restart,
+        highest: wrapping_add_u64(s.highest, step as u64),
+        samples: wrapping_add_u64(s.samples, SAMPLES_PER_DATAGRAM),
+        missing: wrapping_add_u64(s.missing, missing),
+    }
+}
+
+// Over several stretches.
+pub struct Sums {
+    pub samples: u64,
+    pub missing: u64,
+    pub restart: u64,
+}
+
+pub fn plus(t: Sums, s: Stretch) -> Sums
+    ensures { λ r. ⌜ r ≡ plusOf t s ⌝ }
+{
+    Sums {
+        samples: wrapping_add_u64(t.samples, s.samples),
+        missing: wrapping_add_u64(t.missing, s.missing),
+        restart: wrapping_add_u64(t.restart, s.restart),
+    }
+}
