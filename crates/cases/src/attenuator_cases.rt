@@ -17,7 +17,7 @@ const OVERLOAD: u8 = 1;
 
 const TICK: u8 = 2;
 
-pub(crate) fn reading(p: &[u8], at: usize) -> u64
+fn reading(p: &[u8], at: usize) -> u64
     requires { ⌜ at + 8 ≤ length (now p) ⌝ }
 {
     let high = octets::get_u32(p, at) as u64;
@@ -33,7 +33,7 @@ fn called(c: Controller, kind: u8, now: u64) -> Stepped {
     }
 }
 
-pub(crate) fn wide(x: u8) -> u32
+fn wide(x: u8) -> u32
     ensures { λ r. ⌜ r < 256 ⌝ }
 {
     x as u32

@@ -7,7 +7,6 @@ use super::octet_cases;
 use super::packet_cases;
 use super::part_cases;
 use super::report;
-use super::session_cases;
 use super::table::Found;
 use super::table::find;
 use super::wire_cases;
@@ -19,7 +18,6 @@ pub(crate) enum Function {
     Wire(usize),
     Packet(usize),
     Part(usize),
-    Session(usize),
     Unknown,
 }
 
@@ -40,9 +38,6 @@ pub(crate) fn named(name: &[u8], count: usize, has_octets: bool) -> Function {
     if let Found::Row(row) = find(&part_cases::TABLE, name, count, has_octets) {
         return Function::Part(row);
     }
-    if let Found::Row(row) = find(&session_cases::TABLE, name, count, has_octets) {
-        return Function::Session(row);
-    }
     Function::Unknown
 }
 
@@ -54,7 +49,6 @@ pub(crate) fn answer(f: Function, n: [u64; 6], p: &mut [u8]) -> Answer {
         Function::Wire(row) => wire_cases::answer(row, n),
         Function::Packet(row) => packet_cases::answer(row, n, p),
         Function::Part(row) => part_cases::answer(row, n, p),
-        Function::Session(_) => session_cases::answer(p),
         Function::Unknown => Answer::Nothing,
     }
 }
@@ -69,7 +63,6 @@ pub(crate) fn place(f: Function) -> usize
         Function::Wire(row) => 64 + row % 32,
         Function::Packet(row) => 96 + row % 32,
         Function::Part(row) => 128 + row % 32,
-        Function::Session(row) => 160 + row % 32,
         Function::Unknown => 255,
     }
 }
@@ -80,5 +73,4 @@ pub(crate) fn print_counts(counts: &[u64; 256]) {
     report::counts(&wire_cases::TABLE, counts, 64);
     report::counts(&packet_cases::TABLE, counts, 96);
     report::counts(&part_cases::TABLE, counts, 128);
-    report::counts(&session_cases::TABLE, counts, 160);
 }

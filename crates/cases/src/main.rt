@@ -1,4 +1,4 @@
-// Runs cases of text, a line each, and tells which of them did not come out as expected.
+// Runs cases of text, a line each, and tells of each whether it came out as expected.
 mod answer;
 mod attenuator_cases;
 mod case;
@@ -11,9 +11,6 @@ mod packet_cases;
 mod part_cases;
 mod report;
 mod run;
-mod session_arrivals;
-mod session_cases;
-mod session_told;
 mod stall_cases;
 mod table;
 mod wire_cases;

@@ -127,7 +127,7 @@ fn given(a: IqAnswer) -> Answer {
 }
 
 // A NaN, which no sample is, is told by one pattern.
-pub(crate) fn bits_of(x: f32) -> u32 {
+fn bits_of(x: f32) -> u32 {
     if x != x {
         return 0x7fc0_0000;
     }

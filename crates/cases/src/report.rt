@@ -19,14 +19,19 @@ pub(crate) fn too_long() {
     write(b"the input is longer than the program's room\n");
 }
 
-fn line(n: u64) {
-    write(b"line ");
-    number(n);
-    write(b": ");
+// The front of a case's line: where it stands in the input, and the function's name.
+pub(crate) fn case(at: u64, name: &[u8]) {
+    number(at);
+    write(b" ");
+    write(name);
+    write(b" ");
 }
 
-pub(crate) fn not_understood(at: u64) {
-    line(at);
+pub(crate) fn as_expected() {
+    write(b"as expected\n");
+}
+
+pub(crate) fn not_understood() {
     write(b"not understood\n");
 }
 
@@ -42,8 +47,8 @@ fn octets(p: &[u8]) {
 }
 
 // The answer that came, in the form in which a case gives what is expected.
-pub(crate) fn other(at: u64, a: Answer, p: &[u8]) {
-    line(at);
+pub(crate) fn other(a: Answer, p: &[u8]) {
+    write(b"gave ");
     match a {
         Answer::Number(n) => number(n),
         Answer::Double(b) => {

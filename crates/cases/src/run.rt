@@ -56,27 +56,31 @@ fn told(
     wanted: &mut [u8],
 ) -> Tally {
     match judge(a, came, expected, wanted) {
-        Verdict::Same => t.ran(place(f)),
+        Verdict::Same => {
+            report::as_expected();
+            t.ran(place(f))
+        }
         Verdict::Other => {
-            report::other(t.line, a, came);
+            report::other(a, came);
             t.ran(place(f)).one_wrong()
         }
         Verdict::Unread => {
-            report::not_understood(t.line);
+            report::not_understood();
             t.one_wrong()
         }
     }
 }
 
-// A line that is not blank. The room is for the octets that it gives and for those that are expected.
+// A line that is not blank, told as it comes. The room is for the octets that it gives and for those that are expected.
 fn one_case(line: &[u8], t: Tally, given: &mut [u8], wanted: &mut [u8]) -> Tally {
     let c = read(line, given);
-    if !c.fine {
-        report::not_understood(t.line);
-        return t.one_wrong();
-    }
     let start = c.name.start;
     let end = c.name.end;
+    report::case(t.line, &line[start..end]);
+    if !c.fine {
+        report::not_understood();
+        return t.one_wrong();
+    }
     let f = named(&line[start..end], c.given.count, c.given.has_octets);
     let n = c.given.octets;
     let numbers = c.given.numbers;

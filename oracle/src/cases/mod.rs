@@ -41,9 +41,6 @@ const OURS: [&str; 8] = [
     "clear",
 ];
 
-/// The sessions of lists/ as cases (tools/list_cases.py): their answers are the Rust's already, or 01's refusals.
-const SESSIONS: &str = "session_calls";
-
 fn number(s: &str) -> u64 {
     match s.strip_prefix("0x") {
         Some(hex) => u64::from_str_radix(hex, 16).unwrap(),
@@ -107,9 +104,6 @@ impl Tally {
         let came = match judged(name, &a, &p) {
             None if OURS.contains(&name) => {
                 return self.skip("octets by themselves: manta has no such functions")
-            }
-            None if name == SESSIONS => {
-                return self.skip("sessions: the lists that they are made from are run by themselves")
             }
             None => panic!("line {at}: {name}: a function that is not known here"),
             Some((_, Skipped(why))) => return self.skip(why),
