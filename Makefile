@@ -23,7 +23,7 @@ test:
 # stays as it was.
 STDIN := crates/cases/stdin
 vectors:
-	@(for part in double wire attenuator part; do python3 -B tools/$${part}_cases.py || exit 1; done; \
+	@(for part in double wire attenuator part receiving; do python3 -B tools/$${part}_cases.py || exit 1; done; \
 	  echo; oracle/run vectors) > $(STDIN).new && mv $(STDIN).new $(STDIN) || { rm -f $(STDIN).new; exit 1; }
 
 # Builds the Rust under its scripted clock and socket, and runs the cases and the lists of calls through it.

@@ -182,6 +182,13 @@ def readings(r):
         line('since', [str(now), str(then)], max(now - then, 0))
 
 
+def sums():
+    title('saturating_add: slots and the park account stay at 2^64 - 1')
+    pairs = [(0, 0), (0, 1), (1, 0), (MOST, 0), (0, MOST), (MOST - 1, 1), (1, MOST - 1), (MOST, 1), (MOST - 1, 2), (MOST, MOST)]
+    for n, k in pairs + [(2**63, 2**63 - 1), (2**63, 2**63), (MOST - 238, 238), (MOST - 237, 238)]:
+        line('saturating_add', [str(n), str(k)], min(n + k, MOST))
+
+
 def seams(r):
     """Doubles of 53 digits at 2^(k - 1074), about the scales at which the code takes another way."""
     for k in [990, 991]:
@@ -310,6 +317,9 @@ DOCUMENTED = [
     ('jump_limit', 0, 48000, 8192), ('restart_missing', 0, 48000, 0), ('restart_missing', 10**9, 48000, 47762),
     ('below_half', 23800, 48000, 1), ('below_half', 24038, 48000, 0),
     ('below_half', 767788, 1536000, 1), ('below_half', 768026, 1536000, 0),
+    # gaps of 201 and 202, 403 and 404, 806 and 807 at the other accepted rates
+    ('below_half', 47838, 96000, 1), ('below_half', 48076, 96000, 0), ('below_half', 95914, 192000, 1),
+    ('below_half', 96152, 192000, 0), ('below_half', 191828, 384000, 1), ('below_half', 192066, 384000, 0),
 ]
 
 
@@ -391,6 +401,7 @@ def main():
     times(r)
     streams(r)
     readings(r)
+    sums()
 
 
 if __name__ == '__main__':

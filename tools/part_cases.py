@@ -133,6 +133,10 @@ def requests():
     for n in [0, 5, 59, 60, 61, 64]:
         p = put([0] * 60, 4, 1, 2) + [0xff] * (n - 60)
         line('discovery_request', [word([0xff] * n)], word(p) if n >= 60 else 'r:15', f'{n} octets')
+    title('request_left: octets of 0xff after the request was to be written; a refusal leaves them')
+    for n in [0, 1, 59]:
+        line('request_left', [word([0xff] * n)], word([0xff] * n), 'refused, and as it was')
+    line('request_left', [word([0xff] * 60)], word(put([0] * 60, 4, 1, 2)), 'written')
 
 
 # The counts.

@@ -83,8 +83,9 @@ def other_order(r):
 def rates():
     title('rate_khz: the four, the doubles beside them, and other rates')
     near = [p for khz in [48, 96, 192, 384] for p in around(khz * 1000, f'{khz} kHz')]
-    other = [(bits(of(v)), f'{v} Hz') for v in [48, 384, 24000, 768000, 1536000, -48000, 48000 + U32]]
-    for b, why in near + other + [(0, 'zero'), (NO_NUMBER, 'NaN'), (INFINITY, 'infinity')]:
+    other = [(bits(of(v)), f'{v} Hz') for v in [48, 384, 24000, 47999, 48001, 768000, 1536000, -48000, 48000 + U32]]
+    other += [(bits(of(khz * 1000 + k)), f'{khz} kHz, {k:+d} Hz') for khz in [96, 192, 384] for k in [-1, 1]]
+    for b, why in near + other + [(0, 'zero'), (TOP, 'minus zero'), (NO_NUMBER, 'NaN'), (INFINITY, 'infinity'), (TOP + INFINITY, 'minus infinity')]:
         line('rate_khz', [pattern(b)], rate_khz(of_bits(b)), why)
 
 
@@ -266,10 +267,31 @@ def packets():
         ((0, 0, 0, 0, 0, 255), 1444), ((1, 1, *words, 0), 1443), ((1, 1, *words, 0), 0),
     ]:
         sent('high_priority_packet', high, args, room)
-    title('what a transmit packet of count 0 leaves')
-    for given in [[], [0xee], [0xee] * 59]:
-        line('refused_left', [word(given)], word(given), 'refused, and as it was')
-    line('refused_left', [word([0xee] * 60)], word(transmit(0)), 'written')
+    worked()
+    left()
+
+
+def worked():
+    """Packets as a session sends them: 01's fields with 01's own words."""
+    title("packets of 01's own values: each ADC count and filter enable of the boards, each rate")
+    for adcs, enable in sorted({b[:2] for b in BOARDS.values()}):
+        sent('general_packet', general, (1, adcs, enable), 60)
+    for adcs, khz in [(1, 48), (2, 96), (1, 192), (2, 384)]:
+        sent('rx_specific_packet', receive, (1, adcs, 1, khz), 1444)
+    title('the high priority packet at 7,000,000 Hz of a Classic board, by attenuation and run; at the lowest and highest centre')
+    for db in [0, 6, 30]:
+        sent('high_priority_packet', high, (1, 1, 244667733, 0x00200020, 0x00200000, db), 1444)
+    sent('high_priority_packet', high, (2, 0, 244667733, 0x00200020, 0x00200000, 30), 1444)
+    for f in [1, 61439999]:
+        sent('high_priority_packet', high, (1, 1, phase_word(of(f)), *alex(CLASSIC, of(f)), 0), 1444)
+
+
+def left():
+    title('refused_left: octets of 0xee after packet 0 to 3 (general, receive, transmit, high priority) was to be written')
+    for i, p in enumerate([general(0, 1, 1), receive(0, 1, 1, 48), transmit(0), high(0, 0, 0, 0, 0, 0)]):
+        for n in [0, 1, len(p) - 1]:
+            line('refused_left', [str(i), word([0xee] * n)], word([0xee] * n), 'refused, and as it was')
+        line('refused_left', [str(i), word([0xee] * len(p))], word(p), 'written')
 
 
 # Status.
@@ -336,11 +358,12 @@ def headers():
     both += [({'field': 16, 'pairs': 239}, 'the bits win')]
     for given, why in short + lengths + fields + both:
         line('iq_header', [word(datagram(**given))], told(datagram(**given))[0], why)
-    for given, why in short + both:
+    ends = [({'field': v}, f'bits {v}') for v in [0, 65535]] + [({'pairs': v}, f'samples {v}') for v in [0, 65535]]
+    for given, why in short + both + lengths + fields + ends:
         line('iq_value', [word(datagram(**given))], told(datagram(**given))[1], why)
 
 
-VALUES = [0x800000, 0x7fffff, 0x000000, 0xffffff, 0x000001, 0x800001]
+VALUES = [0x800000, 0x7fffff, 0x000000, 0xffffff, 0x000001, 0x800001, 0x7ffffe, 0x400000, 0xc00000, 0x3fffff, 0xbfffff]
 
 
 def samples():
@@ -356,6 +379,20 @@ def samples():
     for room in [0, PLACES - 1, PLACES, PLACES + 1]:
         line('iq_room', [str(room), word(datagram())], told(datagram(), room)[0])
     line('iq_room', ['0', word(datagram(17))], 'r:7')
+    kept(p, values)
+
+
+def kept(p, values):
+    title('iq_left: places of the output, then a place of 480 that hold 7: a refusal leaves all, an answer those from 476 on')
+    seven = f'0x{single(Fraction(7)):08x}'
+    for places, i in [(0, 0), (PLACES - 1, 0), (PLACES - 1, PLACES - 2), (PLACES - 1, PLACES - 1)]:
+        line('iq_left', [str(places), str(i), word(p)], seven, '16')
+    for given, row in [({'length': 1443}, 7), ({'length': 1445}, 7), ({'field': 23}, 8), ({'pairs': 237}, 9)]:
+        line('iq_left', ['480', '0', word(datagram(**given))], seven, str(row))
+    for places, i in [(PLACES, PLACES - 1), (PLACES + 1, PLACES - 1)]:
+        line('iq_left', [str(places), str(i), word(p)], f'0x{single(sample(dict(values)[i])):08x}', 'written')
+    for places, i in [(PLACES, PLACES), (PLACES + 1, PLACES), (480, 479)]:
+        line('iq_left', [str(places), str(i), word(p)], seven, 'past them')
 
 
 def main():

@@ -16,87 +16,41 @@ pub(crate) enum Answer {
 // Room for the octets of a case: the longest packet has 1444.
 pub(crate) const ROOM: usize = 2048;
 
-pub(crate) enum Verdict {
-    Same,
-    Other,
-    Unread,
-}
-
-fn truth(same: bool) -> Verdict {
-    if same { Verdict::Same } else { Verdict::Other }
-}
-
-fn number_as(n: u64, expected: &[u8]) -> Verdict {
+fn is_number(n: u64, expected: &[u8]) -> bool {
     let Spelt::Number(e) = text::number(expected) else {
-        return other_kind(expected);
+        return false;
     };
-    truth(n == e)
+    n == e
 }
 
-// The number of a word such as r:15.
-fn refusal(w: &[u8]) -> Spelt {
+// A word such as r:15.
+fn is_refusal(k: u64, w: &[u8]) -> bool {
     if w.len() < 2 {
-        return Spelt::Nothing;
+        return false;
     }
-    if w[0] != b'r' {
-        return Spelt::Nothing;
+    if check::same(&w[0..2], b"r:") {
+        return is_number(k, &w[2..]);
     }
-    if w[1] != b':' {
-        return Spelt::Nothing;
-    }
-    text::number(&w[2..])
+    false
 }
 
-fn refusal_as(k: u64, expected: &[u8]) -> Verdict {
-    let Spelt::Number(e) = refusal(expected) else {
-        return other_kind(expected);
-    };
-    truth(k == e)
-}
-
-fn absent_as(expected: &[u8]) -> Verdict {
-    if check::same(expected, b"none") {
-        return Verdict::Same;
-    }
-    other_kind(expected)
-}
-
-fn octets_as(came: &[u8], expected: &[u8], room: &mut [u8]) -> Verdict {
+fn are_octets(came: &[u8], expected: &[u8], room: &mut [u8]) -> bool {
     let e = decode(expected, room);
-    if !e.fine {
-        return other_kind(expected);
-    }
     let n = e.count;
-    truth(check::same(came, &room[0..n]))
-}
-
-// Of a word that is not of the answer's kind: it is of another, or spells nothing.
-fn other_kind(expected: &[u8]) -> Verdict {
-    if let Spelt::Number(_) = text::number(expected) {
-        return Verdict::Other;
-    }
-    if let Spelt::Number(_) = refusal(expected) {
-        return Verdict::Other;
-    }
-    if check::same(expected, b"none") {
-        return Verdict::Other;
-    }
-    let mut room = [0u8; ROOM];
-    let e = decode(expected, &mut room);
     if e.fine {
-        return Verdict::Other;
+        return check::same(came, &room[0..n]);
     }
-    Verdict::Unread
+    false
 }
 
-// came is the octets of the case, and room is for those that are expected.
-pub(crate) fn judge(a: Answer, came: &[u8], expected: &[u8], room: &mut [u8]) -> Verdict {
+// Whether an answer is what a word spells. came is the octets of the case, and room is for those that are expected.
+pub(crate) fn is_as(a: Answer, came: &[u8], expected: &[u8], room: &mut [u8]) -> bool {
     match a {
-        Answer::Number(n) => number_as(n, expected),
-        Answer::Double(b) => number_as(b, expected),
-        Answer::Refused(k) => refusal_as(k, expected),
-        Answer::Absent => absent_as(expected),
-        Answer::Octets => octets_as(came, expected, room),
-        Answer::Nothing => Verdict::Unread,
+        Answer::Number(n) => is_number(n, expected),
+        Answer::Double(b) => is_number(b, expected),
+        Answer::Refused(k) => is_refusal(k, expected),
+        Answer::Absent => check::same(expected, b"none"),
+        Answer::Octets => are_octets(came, expected, room),
+        Answer::Nothing => false,
     }
 }

@@ -17,12 +17,19 @@ const OVERLOAD: u8 = 1;
 
 const TICK: u8 = 2;
 
-fn reading(p: &[u8], at: usize) -> u64
+pub(crate) fn reading(p: &[u8], at: usize) -> u64
     requires { ⌜ at + 8 ≤ length (now p) ⌝ }
 {
     let high = octets::get_u32(p, at) as u64;
     let low = octets::get_u32(p, at + 4) as u64;
     high * 4294967296 + low
+}
+
+pub(crate) fn put_reading(p: &mut [u8], at: usize, v: u64)
+    requires { ⌜ at + 8 ≤ length (now p) ⌝ }
+{
+    octets::put_u32(p, at, (v / 4294967296) as u32);
+    octets::put_u32(p, at + 4, (v % 4294967296) as u32);
 }
 
 fn called(c: Controller, kind: u8, now: u64) -> Stepped {

@@ -15,6 +15,12 @@ pub(crate) fn request(p: &mut [u8]) -> Answer {
     of_packet(discovery_request_p2(p))
 }
 
+// What the octets are after the request was to be written, whether it was or not.
+pub(crate) fn request_left(p: &mut [u8]) -> Answer {
+    discovery_request_p2(p);
+    Answer::Octets
+}
+
 fn of_status(s: DiscoveryStatus) -> u8 {
     match s {
         DiscoveryStatus::Available => 2,

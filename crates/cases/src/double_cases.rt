@@ -4,7 +4,7 @@ use double::stream;
 use double::time;
 use double::whole;
 
-pub(crate) const TABLE: [u8; 182] = *b"is_finite 1\n\
+pub(crate) const TABLE: [u8; 199] = *b"is_finite 1\n\
     is_whole 1\n\
     floor_u64 1\n\
     ceil_u64 1\n\
@@ -18,7 +18,8 @@ pub(crate) const TABLE: [u8; 182] = *b"is_finite 1\n\
     account_time 2\n\
     covered_time 2\n\
     below_half 2\n\
-    since 2";
+    since 2\n\
+    saturating_add 2";
 
 // The double of a pattern. Every NaN's pattern gives the one NaN that the language has.
 pub(crate) fn double_of(bits: u64) -> f64 {
@@ -74,6 +75,9 @@ pub(crate) fn answer(row: usize, n: [u64; 6]) -> Answer {
     }
     if row == 14 {
         return Answer::Number(time::since(n[0], n[1]));
+    }
+    if row == 15 {
+        return Answer::Number(whole::saturating_add(n[0], n[1]));
     }
     of_number(row, n[0], double_of(n[1]))
 }

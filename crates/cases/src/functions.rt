@@ -1,12 +1,11 @@
-// Which functions there are: groups of at most 32, each with functions of one crate, or of a session's small parts. A further
-// group is a file with a table and the code that runs a row of it, and a line in each function here.
-ghost use Prim.Native.Nat.{_<_};
+// Which functions there are: groups, each with functions of one crate, or of a session's small parts. A further group is a
+// file with a table and the code that runs a row of it, and a line in each function here.
 use super::answer::Answer;
 use super::double_cases;
 use super::octet_cases;
 use super::packet_cases;
 use super::part_cases;
-use super::report;
+use super::receiving_cases;
 use super::table::Found;
 use super::table::find;
 use super::wire_cases;
@@ -18,6 +17,7 @@ pub(crate) enum Function {
     Wire(usize),
     Packet(usize),
     Part(usize),
+    Receiving(usize),
     Unknown,
 }
 
@@ -38,6 +38,9 @@ pub(crate) fn named(name: &[u8], count: usize, has_octets: bool) -> Function {
     if let Found::Row(row) = find(&part_cases::TABLE, name, count, has_octets) {
         return Function::Part(row);
     }
+    if let Found::Row(row) = find(&receiving_cases::TABLE, name, count, has_octets) {
+        return Function::Receiving(row);
+    }
     Function::Unknown
 }
 
@@ -49,28 +52,7 @@ pub(crate) fn answer(f: Function, n: [u64; 6], p: &mut [u8]) -> Answer {
         Function::Wire(row) => wire_cases::answer(row, n),
         Function::Packet(row) => packet_cases::answer(row, n, p),
         Function::Part(row) => part_cases::answer(row, n, p),
+        Function::Receiving(row) => receiving_cases::answer(row, n, p),
         Function::Unknown => Answer::Nothing,
     }
-}
-
-// Where the function's runs are counted: 32 places for each group. An unknown function is never run.
-pub(crate) fn place(f: Function) -> usize
-    ensures { λ r. ⌜ r < 256 ⌝ }
-{
-    match f {
-        Function::Octet(row) => row % 32,
-        Function::Double(row) => 32 + row % 32,
-        Function::Wire(row) => 64 + row % 32,
-        Function::Packet(row) => 96 + row % 32,
-        Function::Part(row) => 128 + row % 32,
-        Function::Unknown => 255,
-    }
-}
-
-pub(crate) fn print_counts(counts: &[u64; 256]) {
-    report::counts(&octet_cases::TABLE, counts, 0);
-    report::counts(&double_cases::TABLE, counts, 32);
-    report::counts(&wire_cases::TABLE, counts, 64);
-    report::counts(&packet_cases::TABLE, counts, 96);
-    report::counts(&part_cases::TABLE, counts, 128);
 }

@@ -6,25 +6,24 @@ mod discovery_cases;
 mod double_cases;
 mod functions;
 mod health_cases;
+mod input;
 mod octet_cases;
 mod packet_cases;
 mod part_cases;
+mod receiving_cases;
 mod report;
+mod report_cases;
 mod run;
 mod stall_cases;
 mod table;
 mod wire_cases;
 mod words;
 
-// There is room for more cases than there are. What does not fit is told, and nothing is run: a cut input would pass
-// with the cases that are left.
+// Room for a line: the longest has two packets' octets.
+const LINE: usize = 8192;
+
 fn main() {
-    let mut text = [0u8; 524288];
-    let n = io::read_full(libc::STDIN_FILENO, &mut text);
-    let mut more = [0u8; 1];
-    if io::read_full(libc::STDIN_FILENO, &mut more) > 0 {
-        report::too_long();
-        return;
-    }
-    report::tell(run::run(&text[..n]));
+    let mut room = [0u8; LINE];
+    let t = run::run(&mut room);
+    report::total(t.cases, t.wrong);
 }

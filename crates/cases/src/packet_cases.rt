@@ -15,16 +15,17 @@ use wire::status::OverloadBits;
 use wire::status::adc_overload_bits;
 
 // A packet is given its arguments in the Rust's order, the board by its ADCs and its filter enable.
-pub(crate) const TABLE: [u8; 171] = *b"general_packet 3o\n\
+pub(crate) const TABLE: [u8; 182] = *b"general_packet 3o\n\
     rx_specific_packet 4o\n\
     tx_specific_packet 1o\n\
     high_priority_packet 6o\n\
-    refused_left 0o\n\
+    refused_left 1o\n\
     adc_overload_bits 0o\n\
     iq_header 0o\n\
     iq_value 0o\n\
     iq_sample 1o\n\
-    iq_room 1o";
+    iq_room 1o\n\
+    iq_left 2o";
 
 pub(crate) fn of_packet(a: PacketAnswer) -> Answer {
     match a {
@@ -92,9 +93,16 @@ fn high_priority(n: [u64; 6], p: &mut [u8]) -> Answer {
     Answer::Nothing
 }
 
-// What the octets are after a packet was to be written, whether it was or not.
-fn left(p: &mut [u8]) -> Answer {
-    tx_specific_packet(0, p);
+// What the octets are after a packet was to be written, whether it was or not. The writers stand in the table's order.
+fn left(which: u64, p: &mut [u8]) -> Answer {
+    let b = board(1, 1);
+    match which {
+        0 => general_packet(0, b, p),
+        1 => rx_specific_packet(0, b, 48, p),
+        2 => tx_specific_packet(0, p),
+        _ => high_priority_packet(0, false, 0, 0, 0, 0, p),
+    }
+    ;
     Answer::Octets
 }
 
@@ -157,17 +165,32 @@ fn room(p: &[u8], n: u64) -> Answer {
     of_iq(parse_iq_datagram(p, &mut out[0..n]))
 }
 
+// Place i of 480, of which n are the output, after a datagram was to be read, whether it was or not.
+fn kept(p: &[u8], n: u64, i: u64) -> Answer {
+    if n > 480 {
+        return Answer::Nothing;
+    }
+    if i >= 480 {
+        return Answer::Nothing;
+    }
+    let n = n as usize;
+    let mut out = [7.0f32; 480];
+    parse_iq_datagram(p, &mut out[0..n]);
+    Answer::Double(bits_of(out[i as usize]) as u64)
+}
+
 // p is what the case gives, and a packet is written to it in place.
 pub(crate) fn answer(row: usize, n: [u64; 6], p: &mut [u8]) -> Answer {
     match row {
         0 | 1 => with_board(row, n, p),
         2 => transmit(n[0], p),
         3 => high_priority(n, p),
-        4 => left(p),
+        4 => left(n[0], p),
         5 => overload(p),
         6 => of_iq(iq_header(p)),
         7 => given(iq_header(p)),
         8 => sample(p, n[0]),
-        _ => room(p, n[0]),
+        9 => room(p, n[0]),
+        _ => kept(p, n[0], n[1]),
     }
 }

@@ -6,7 +6,7 @@ use super::discovery_cases;
 use super::health_cases;
 use super::stall_cases;
 
-pub(crate) const TABLE: [u8; 183] = *b"attenuator 5o\n\
+pub(crate) const TABLE: [u8; 199] = *b"attenuator 5o\n\
     timing_hold 0\n\
     timing_trip 0\n\
     timing_release 0\n\
@@ -17,7 +17,8 @@ pub(crate) const TABLE: [u8; 183] = *b"attenuator 5o\n\
     record_dropped 2\n\
     record_gap 1\n\
     record_malformed 1\n\
-    loss_total 1";
+    loss_total 1\n\
+    request_left 0o";
 
 // p is what the case gives, and is changed in place.
 pub(crate) fn answer(row: usize, n: [u64; 6], p: &mut [u8]) -> Answer {
@@ -33,6 +34,7 @@ pub(crate) fn answer(row: usize, n: [u64; 6], p: &mut [u8]) -> Answer {
         8 => health_cases::dropped(n[0], n[1]),
         9 => health_cases::gap(n[0]),
         10 => health_cases::malformed(n[0]),
-        _ => health_cases::loss_total(n[0]),
+        11 => health_cases::loss_total(n[0]),
+        _ => discovery_cases::request_left(p),
     }
 }

@@ -1,10 +1,5 @@
 // What the program writes.
 use super::answer::Answer;
-use super::functions::print_counts;
-use super::run::Tally;
-use super::words::line_end;
-use super::words::next_line;
-use super::words::word_at;
 use libc::STDOUT_FILENO;
 
 fn write(s: &[u8]) {
@@ -13,10 +8,6 @@ fn write(s: &[u8]) {
 
 fn number(n: u64) {
     io::print_decimal(STDOUT_FILENO, n);
-}
-
-pub(crate) fn too_long() {
-    write(b"the input is longer than the program's room\n");
 }
 
 // The front of a case's line: where it stands in the input, and the function's name.
@@ -66,38 +57,9 @@ pub(crate) fn other(a: Answer, p: &[u8]) {
     write(b"\n");
 }
 
-// A line for each function of a table that was run. Its counts start at the place first.
-pub(crate) fn counts(table: &[u8], counts: &[u64; 256], first: usize) {
-    let mut at = 0;
-    let mut place = first;
-    while at < table.len() {
-        let end = line_end(table, at);
-        if place < 256 {
-            count(&table[at..end], counts[place]);
-            place += 1;
-        }
-        at = next_line(table, at);
-    }
-}
-
-fn count(row: &[u8], n: u64) {
-    if n == 0 {
-        return;
-    }
-    let w = word_at(row, 0);
-    let start = w.start;
-    let end = w.end;
-    write(&row[start..end]);
-    write(b" ");
-    number(n);
-    write(b"\n");
-}
-
-pub(crate) fn tell(t: Tally) {
-    let c = t.counts;
-    print_counts(&c);
-    number(t.cases);
+pub(crate) fn total(cases: u64, wrong: u64) {
+    number(cases);
     write(b" cases, ");
-    number(t.wrong);
+    number(wrong);
     write(b" not as expected\n");
 }

@@ -97,7 +97,7 @@ fn overload(n: u64) -> Answer {
     Answer::Nothing
 }
 
-fn of_event(e: SeqEvent) -> Answer {
+pub(crate) fn of_event(e: SeqEvent) -> Answer {
     match e {
         SeqEvent::InOrder => Answer::Number(0),
         SeqEvent::Gap(_) => Answer::Number(1),

@@ -32,7 +32,7 @@ fn reply(p: &[u8]) -> Ran {
 
 pub fn run(name: &str, _: &[u64], p: &[u8]) -> Option<Ran> {
     Some(match name {
-        "discovery_request" => lent(&discovery_request_p2(), p),
+        "discovery_request" | "request_left" => lent(&discovery_request_p2(), p),
         "parse_reply" => reply(p),
         _ => return None,
     })

@@ -54,6 +54,7 @@ fn below_half(n: u64, rate: f64) -> Ran {
 pub fn run(name: &str, a: &[u64], _: &[u8]) -> Option<Ran> {
     match (name, a) {
         ("seconds", &[ns]) => Some(bits(Duration::from_nanos(ns).as_secs_f64())),
+        ("saturating_add", &[n, k]) => Some(Number(n.saturating_add(k))),
         ("covered_time", &[n, rate]) => Some(covered_time(n, f64::from_bits(rate))),
         ("below_half", &[n, rate]) => Some(below_half(n, f64::from_bits(rate))),
         (_, &[x]) => of_double(name, f64::from_bits(x)),

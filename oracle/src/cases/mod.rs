@@ -6,6 +6,7 @@ mod double_cases;
 mod health_cases;
 mod instant_cases;
 mod ran;
+mod receiving_cases;
 mod stall_cases;
 mod stream_cases;
 mod wire_cases;
@@ -17,9 +18,10 @@ use std::collections::BTreeMap;
 /// None for a function of another file.
 type Run = fn(&str, &[u64], &[u8]) -> Option<Ran>;
 
-const FILES: [(&str, Run); 8] = [
+const FILES: [(&str, Run); 9] = [
     ("wire.rs", wire_cases::run),
     ("mod.rs", stream_cases::run),
+    ("mod.rs's receiver", receiving_cases::run),
     ("attenuator.rs", attenuator_cases::run),
     ("stall.rs", stall_cases::run),
     ("discovery.rs", discovery_cases::run),

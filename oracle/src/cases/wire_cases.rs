@@ -125,6 +125,25 @@ fn room(places: u64, p: &[u8]) -> Ran {
     }
 }
 
+/// The writers in the order of the cases' table.
+fn left(which: u64, p: &[u8]) -> Ran {
+    let board = given(1, 1);
+    match which {
+        0 => lent(&general_packet(0, &board), p),
+        1 => lent(&rx_specific_packet(0, &board, 48), p),
+        2 => lent(&tx_specific_packet(0), p),
+        _ => lent(&high_priority_packet(0, false, 0, 0, 0, 0), p),
+    }
+}
+
+/// A place of an output that was lent; what the Rust appends is compared where it was written.
+fn kept(places: u64, place: u64, p: &[u8]) -> Ran {
+    match parsed(p).0 {
+        Ok(_) if places >= 476 => sample(place, p),
+        _ => Skipped("what a refusal leaves of a lent output: the Rust appends to a Vec"),
+    }
+}
+
 pub fn run(name: &str, a: &[u64], p: &[u8]) -> Option<Ran> {
     let double = |i: usize| f64::from_bits(a[i]);
     Some(match name {
@@ -155,12 +174,13 @@ pub fn run(name: &str, a: &[u64], p: &[u8]) -> Option<Ran> {
             ),
             p,
         ),
-        "refused_left" => lent(&tx_specific_packet(0), p),
+        "refused_left" => left(a[0], p),
         "adc_overload_bits" => option(adc_overload_bits(p).map(u64::from), "none"),
         "iq_header" => header(parsed(p).0),
         "iq_value" => value(parsed(p).0),
         "iq_sample" => sample(a[0], p),
         "iq_room" => room(a[0], p),
+        "iq_left" => kept(a[0], a[1], p),
         _ => return None,
     })
 }

@@ -10,7 +10,7 @@ pub fn jump_limit(ns: u64, rate: f64) -> u64 {
 }
 
 /// At any rate: `open` accepts four.
-fn opened(rate: f64) -> Protocol2IqSource {
+pub fn opened(rate: f64) -> Protocol2IqSource {
     let mut source = open(&Settings::default()).unwrap().source;
     source.sample_rate_hz = rate;
     source

@@ -5,6 +5,7 @@ use crate::script::{self, Feed, Made, Problem, Script, Stop};
 
 pub mod aims;
 pub mod arithmetic;
+pub mod receiver;
 pub mod state;
 
 pub struct Session {

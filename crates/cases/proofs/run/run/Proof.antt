@@ -1,21 +1,22 @@
--- `cases::run::run`: each turn starts at a line of the text, and the next one is further on. Assumes nothing.
+-- `cases::run::run`: at each turn fewer lines are left to be read, and the room keeps its length. Assumes nothing.
+use mathlib.Core.Path.{_≡_}
 use borrow.Author.Needs.{needs}
-use Prim.Native.Nat.{_-_, _≤_}
+use Prim.Native.Nat.{_≤_}
 use lib.ListN.{length}
 use Rattle.cases.proofs.run.run.Statement.{statement}
 use Rattle.cases.proofs.run.run.Tie as tie
 
 abbrev Inv-loop : tie.InvT-loop
-Inv-loop text t₀ at₀ t at = at ≤ length text
+Inv-loop room₀ t₀ left₀ room t left = (left ≤ 1000000) × (length room ≡ length room₀)
 
 abbrev μ-loop : tie.MeasureT-loop
-μ-loop text t₀ at₀ t at = length text - at
+μ-loop room₀ t₀ left₀ room t left = left
 
 loop-holds : tie.Need-loop-holds Inv-loop μ-loop
 loop-holds c = search needs
 
-line-end-requires : tie.Need-line-end-requires Inv-loop μ-loop
-line-end-requires c κs = search needs
+next-requires : tie.Need-next-requires Inv-loop μ-loop
+next-requires c κs = search needs
 
 sub-one-line : tie.Need-sub-one-line Inv-loop μ-loop
 sub-one-line c = search needs
@@ -32,8 +33,14 @@ next-line-requires c κs = search needs
 one-line-requires : tie.Need-one-line-requires Inv-loop μ-loop
 one-line-requires c κs = search needs
 
-next-line-requires-2 : tie.Need-next-line-requires-2 Inv-loop μ-loop
-next-line-requires-2 c κs = search needs
+same-length : tie.Need-same-length Inv-loop μ-loop
+same-length c = search needs
+
+returns : tie.Need-returns Inv-loop μ-loop
+returns c = search needs
+
+sub-left : tie.Need-sub-left Inv-loop μ-loop
+sub-left c = search needs
 
 loop-less : tie.Need-loop-less Inv-loop μ-loop
 loop-less c = search needs
@@ -41,8 +48,14 @@ loop-less c = search needs
 loop-again : tie.Need-loop-again Inv-loop μ-loop
 loop-again c = search needs
 
-returns : tie.Need-returns Inv-loop μ-loop
-returns c = search needs
+next-case-requires : tie.Need-next-case-requires Inv-loop μ-loop
+next-case-requires c κs = search needs
+
+same-length-2 : tie.Need-same-length-2 Inv-loop μ-loop
+same-length-2 c = search needs
+
+returns-2 : tie.Need-returns-2 Inv-loop μ-loop
+returns-2 c = search needs
 
 pub run-spec : {M : Type 1} → statement M
 run-spec =
@@ -51,13 +64,17 @@ run-spec =
     Inv-loop
     μ-loop
     loop-holds
-    line-end-requires
+    next-requires
     sub-one-line
     part-one-line-start
     part-one-line-end
     next-line-requires
     one-line-requires
-    next-line-requires-2
+    same-length
+    returns
+    sub-left
     loop-less
     loop-again
-    returns)
+    next-case-requires
+    same-length-2
+    returns-2)
