@@ -3,8 +3,8 @@
 parts.
 
 Every expected value is worked out from document 01 (The session, Begin; Numbers in the stream), with the arithmetic of
-tools/double_cases.py and the tracker of tools/wire_cases.py. A window is None or its anchor, account and arrivals left; a slot is
-None or what it holds. It shares nothing with the definitions or the code tried here, and runs neither.
+tools/double_cases.py and the tracker of tools/wire_cases.py. A window is None or its anchor, account and arrivals left; a
+slot is None or what it holds. It shares nothing with the definitions or the code tried here, and runs neither.
 """
 from double_cases import MOST, account_time, below_half, covered_time, jump_limit, restart_missing
 from ieee import bits, of
@@ -95,22 +95,26 @@ def used(window, missing):
     return window[0], min(window[1] + 238 + missing, MOST), window[2] - 1
 
 
+def of_begun(window, size, taken, now, why=''):
+    args = [str(size), str(taken), str(now), word(of_window(window))]
+    line('window_begun', args, word(of_window(begun(window, size, taken, now))), why)
+
+
 def windows():
     title('window_begun: its size, the last Take, the reading: 100 ms open one at that Take, or refill what is open')
     for window in [None, (3, 476, 2), (3, 476, 0)]:
         for size in [8192, 0]:
             for k in [-1, 0, 1]:
-                args = [str(size), str(SECOND), str(SECOND + PAUSE + k), word(of_window(window))]
-                line('window_begun', args, word(of_window(begun(window, size, SECOND, SECOND + PAUSE + k))), f'100 ms, {k:+d} ns')
+                of_begun(window, size, SECOND, SECOND + PAUSE + k, f'100 ms, {k:+d} ns')
     for taken, now in [(5, 4), (MOST, 0), (0, MOST), (MOST - PAUSE, MOST), (MOST - PAUSE + 1, MOST)]:
         for window in [None, (1, 2, 3)]:
-            args = [str(MOST), str(taken), str(now), word(of_window(window))]
-            line('window_begun', args, word(of_window(begun(window, MOST, taken, now))))
+            of_begun(window, MOST, taken, now)
     title('window_used: what an accepted arrival was told missing; 238 and that are accounted, and the last arrival closes it')
     for missing in [0, 238, 47762]:
         for window in [None, (7, 0, 0), (7, 0, 1), (7, 0, 2), (7, 476, 8192), (7, 476, MOST)]:
             line('window_used', [str(missing), word(of_window(window))], word(of_window(used(window, missing))))
-    for account, missing in [(MOST - 238, 0), (MOST - 239, 0), (MOST - 237, 0), (MOST - 238, 1), (MOST - 239, 1), (MOST, MOST), (0, MOST)]:
+    near = [(MOST - 239, 0), (MOST - 238, 0), (MOST - 237, 0), (MOST - 239, 1), (MOST - 238, 1)]
+    for account, missing in near + [(MOST, MOST), (0, MOST)]:
         given = (7, account, 2)
         line('window_used', [str(missing), word(of_window(given))], word(of_window(used(given, missing))), 'about the largest')
 
@@ -144,7 +148,7 @@ PARKED = (SECOND, 0, 9)
 
 
 def outages():
-    title('restart_outage: rate, last accepted, arrival, later reading, the number expected next; then window and waiting numbers')
+    title('restart_outage: rate, last accepted, arrival, later reading, the next number; then window and waiting numbers')
     of_outage(None, [], 'no window')
     of_outage(None, [101, 102], 'no window: what waits makes no difference')
     of_outage(None, [101], 'nor does the later reading', later=9 * SECOND)
@@ -153,11 +157,12 @@ def outages():
     of_outage((SECOND, 48000, 9), [], 'less its account')
     of_outage((SECOND, 48000 * 9, 9), [], 'an account past it: since this arrival', later=5 * SECOND + 3)
     walks = [
-        ('in order', [101, 102, 103]), ('a gap of 4', [106]), ('stale: none', [100, 99, 37]), ('64 behind', [37]), ('65 behind', [36]),
+        ('in order', [101, 102, 103]), ('a gap of 5', [106]), ('stale: none', [100, 99, 37]),
+        ('64 behind', [37]), ('65 behind', [36]),
         ('number 0', [0, 1, 2]), ('the eighth stale one', [100] * 7 + [99]), ('seven stale ones', [100] * 7),
-        ('a gap over the limit is one, and moves the copy', [101 + 20000, 101 + 20001]), ('in order behind a stale one', [100, 101]),
+        ('a gap over the limit is one, and moves the copy', [20101, 20102]), ('in order behind a stale one', [100, 101]),
     ]
-    assert backlog(8192, 101, walks[1][1]) == 6 and backlog(8192, 101, walks[2][1]) == 0 and backlog(8192, 101, [20101, 20102]) == 2
+    assert [backlog(8192, 101, waiting) for waiting in [[106], [100, 99, 37], [20101, 20102]]] == [6, 0, 2]
     for why, waiting in walks:
         of_outage(PARKED, waiting, why)
     # E is 4 s
@@ -206,7 +211,7 @@ def of_report(event, k, ns, why, rate=48000, slots=(None, None), counts=(11, 12,
 
 
 def reports():
-    title('report_event: rate, event, gap, time; then both slots (1 or 0, and what it holds), dropped, gaps, malformed and missing')
+    title('report_event: rate, event, gap, time; then the slots (1 or 0, what it holds), dropped, gaps, malformed, missing')
     assert reported(48000, GAP, 100, 0, (None, None), (0, 0, 0)) == ((23800, None), (100, 1, 0), 23800)
     assert reported(48000, GAP, 101, 0, (None, None), (0, 0, 0)) == ((None, 24038), (101, 1, 0), 24038)
     assert reported(48000, RESTART, 0, SECOND, (None, None), (0, 0, 0)) == ((None, 47762), (0, 1, 0), 47762)
@@ -240,7 +245,7 @@ def ports():
 
 def main():
     print('''
-# Cases of a receiver's rules, made by tools/receiving_cases.py (`make vectors`) from document 01. A number among octets has eight.''')
+# Cases of a receiver's rules, made by tools/receiving_cases.py (`make vectors`) from document 01. A number has eight octets.''')
     elapsed_times()
     caps()
     windows()

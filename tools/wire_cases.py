@@ -85,7 +85,8 @@ def rates():
     near = [p for khz in [48, 96, 192, 384] for p in around(khz * 1000, f'{khz} kHz')]
     other = [(bits(of(v)), f'{v} Hz') for v in [48, 384, 24000, 47999, 48001, 768000, 1536000, -48000, 48000 + U32]]
     other += [(bits(of(khz * 1000 + k)), f'{khz} kHz, {k:+d} Hz') for khz in [96, 192, 384] for k in [-1, 1]]
-    for b, why in near + other + [(0, 'zero'), (TOP, 'minus zero'), (NO_NUMBER, 'NaN'), (INFINITY, 'infinity'), (TOP + INFINITY, 'minus infinity')]:
+    other += [(0, 'zero'), (TOP, 'minus zero'), (NO_NUMBER, 'NaN'), (INFINITY, 'infinity'), (TOP + INFINITY, 'minus infinity')]
+    for b, why in near + other:
         line('rate_khz', [pattern(b)], rate_khz(of_bits(b)), why)
 
 
@@ -278,7 +279,7 @@ def worked():
         sent('general_packet', general, (1, adcs, enable), 60)
     for adcs, khz in [(1, 48), (2, 96), (1, 192), (2, 384)]:
         sent('rx_specific_packet', receive, (1, adcs, 1, khz), 1444)
-    title('the high priority packet at 7,000,000 Hz of a Classic board, by attenuation and run; at the lowest and highest centre')
+    title('the high priority packet of a Classic board at 7,000,000 Hz, by attenuation and run; at either end of the centres')
     for db in [0, 6, 30]:
         sent('high_priority_packet', high, (1, 1, 244667733, 0x00200020, 0x00200000, db), 1444)
     sent('high_priority_packet', high, (2, 0, 244667733, 0x00200020, 0x00200000, 30), 1444)

@@ -9,8 +9,8 @@ pub(crate) struct Line {
     pub more: bool,
 }
 
-// The next line, without its newline. One that is longer than the room is cut there, and what follows is the next: no case
-// is read out of either.
+// The next line, without its newline. One that is longer than the room is cut there, and what follows counts as the next: cut
+// octets come out as other than expected, and the rest of a line spells no case.
 pub(crate) fn next(room: &mut [u8]) -> Line
     ensures { λ r. ⌜ r .end ≤ length (now (room .exit)) ⌝ }
 {

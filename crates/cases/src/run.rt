@@ -88,7 +88,8 @@ fn one_line(line: &[u8], t: Tally) -> Tally {
     t.next_case(one_told(&line[0..n], t.line))
 }
 
-// To the input's end, each line in the room. What is past the most lines counts as a case not as expected: a cut input would pass with the rest.
+// To the input's end, each line in the room. What is past the most lines counts as a case not as expected: a cut input would
+// pass with the cases that are left.
 pub(crate) fn run(room: &mut [u8]) -> Tally {
     let mut t = Tally {
         cases: 0,
