@@ -21,7 +21,7 @@ use Rattle.lines.specs.declared.option.Took.{Took}
 use Rattle.lines.specs.declared.option.Took.the-variants.{Taken, Unknown, Unreadable}
 use Rattle.lines.specs.Argument.{names, form, argumentValues, argumentOctets, Arguments}
 use Rattle.lines.specs.Option.{optionsTook, optionsValues, optionsNumbers, Ran}
-use Rattle.lines.specs.Call.{expectedWord, optioned, ends, unsaid, argumentsOf, optionsOf, readNamed, readWords, wordsOf, readLine, valuesOf, callOf, octetsOf, Named, nameOf, after, Line}
+use Rattle.lines.specs.Call.{expectedWord, optioned, ends, unsaid, argumentsOf, optionsOf, readNamed, readWords, wordsOf, longest, readLine, valuesOf, callOf, octetsOf, Named, nameOf, after, Line}
 use Rattle.lines.proofs.Forms.{getD-under}
 use Rattle.lines.proofs.Bounds.{Held, held-options, held-form, fit}
 
@@ -109,11 +109,11 @@ module _ (line : List ℕ) (ip port : ℕ) (d n c e m : List ℕ) where
   no-call : (x : Read) → (x ≡ Read.Call → ⊥) → x ≡ readLine line → Line line ip port d n x c e m
   no-call x f t = record { told = t; call = λ q. absurd (f q); octets = λ q. absurd (f q); numbers = λ q. absurd (f q); fit = λ q. absurd (f q) }
 
-  pub too-long : 16384 < length line → Line line ip port d n (Read.Unread Expected.ShorterLine) c e m
+  pub too-long : longest < length line → Line line ip port d n (Read.Unread Expected.ShorterLine) c e m
   unfolding readLine
   too-long h = no-call _ (λ q. let z : _≡_ {A = ℕ} 0 1 = cc in omega arith) (sym (pick-t _ _ _ (lt-ltb _ _ h)))
 
-  module _ (h : length line ≤ 16384) (s : List ℕ) (q : s ≡ take (run (other 35) line) line) (a z : ℕ) (w : WordAt s 0 a z) where
+  module _ (h : length line ≤ longest) (s : List ℕ) (q : s ≡ take (run (other 35) line) line) (a z : ℕ) (w : WordAt s 0 a z) where
     by-words : readWords (words s) ≡ readLine line
     unfolding readLine
     by-words = ap (λ (x : List ℕ). readWords (words x)) q ∙ sym (pick-f _ _ _ (le-ltb _ _ h))

@@ -10,7 +10,7 @@ use lib.Seq.{drop-cons}
 use Rattle.text.specs.Split.{words, part, WordAt}
 use Rattle.text.specs.declared.Spelt.the-variants.{Number, Nothing}
 use Rattle.text.proofs.Splits.{no-word, one-word}
-use Rattle.lines.specs.Argument.{argument, octetsAs, unread, argumentValues, argumentOctets, Arguments}
+use Rattle.lines.specs.Argument.{argument, octetsAs, unread, argumentValues, argumentOctets, argumentsRest, Arguments}
 use Rattle.lines.proofs.Values.{given-no, given-yes}
 
 -- the first j words of the form are read, and have left m and n
@@ -23,6 +23,7 @@ pub record Filling (ts s l d : List ℕ) (start at j : ℕ) (m n : List ℕ) : T
   pub values : argumentValues (36 + j) (drop j ts) (words (drop at s)) m ≡ argumentValues 36 ts (words (drop start s)) l
   pub octets : argumentOctets (drop j ts) (words (drop at s)) n ≡ argumentOctets ts (words (drop start s)) d
   pub follows : drop (length ts - j) (words (drop at s)) ≡ drop (length ts) (words (drop start s))
+  pub rest : argumentsRest (drop j ts) (words (drop at s)) ≡ argumentsRest ts (words (drop start s))
 
 pub filling : (ts s l d : List ℕ) (start : ℕ) → start ≤ length s → Filling ts s l d start start 0 l d
 filling ts s l d start h =
@@ -35,11 +36,12 @@ filling ts s l d start h =
       values = refl;
       octets = refl;
       follows = rw (sub-zero (length ts));
+      rest = refl;
     }
 
 module _ (ts s l d : List ℕ) (start at j : ℕ) (m n : List ℕ) (i : Filling ts s l d start at j m n) where
   pub filled : length ts ≤ j → Arguments ts s l d (words (drop start s)) 6 at m n
-  unfolding unread argumentValues argumentOctets
+  unfolding unread argumentValues argumentOctets argumentsRest
   filled h =
       let z = drop-of-length-le ts {i = j} h in
       let k : length ts - j ≡ 0 = omega arith in
@@ -49,27 +51,31 @@ module _ (ts s l d : List ℕ) (start at j : ℕ) (m n : List ℕ) (i : Filling 
         values = λ t. sym (ap (λ (x : List ℕ). argumentValues (36 + j) x (words (drop at s)) m) z) ∙ i .values;
         octets = λ t. sym (ap (λ (x : List ℕ). argumentOctets x (words (drop at s)) n) z) ∙ i .octets;
         follows = λ t. sym (ap (λ (x : ℕ). drop x (words (drop at s))) k) ∙ i .follows;
+        rest = sym (ap (λ (x : List ℕ). argumentsRest x (words (drop at s))) z) ∙ i .rest;
       }
 
   module _ (h : j < length ts) (t : ℕ) (k : t ≡ getD ts j 0) (b : t < 6) (a e : ℕ) (w : WordAt s at a e) where
     next : drop j ts ≡ t ∷ drop (suc j) ts
     next = drop-cons ts j 0 h ∙ ap (λ (x : ℕ). x ∷ drop (suc j) ts) (sym k)
 
-    unread-here : (x y : List ℕ) → t ≡ unread ts (words (drop start s)) → Arguments ts s l d (words (drop start s)) t at x y
-    unread-here x y q =
+    unread-here : (x y : List ℕ) → t ≡ unread ts (words (drop start s)) → words (drop at s) ≡ argumentsRest ts (words (drop start s))
+        → Arguments ts s l d (words (drop start s)) t at x y
+    unread-here x y q v =
         record {
           told = q;
           within = i .within;
           values = λ z. absurd (omega arith);
           octets = λ z. absurd (omega arith);
           follows = λ z. absurd (omega arith);
+          rest = v;
         }
 
     pub not-there : a ≡ e → Arguments ts s l d (words (drop start s)) t at m n
-    unfolding unread
+    unfolding unread argumentsRest
     not-there z =
-        unread-here m n
-        (sym (ap (λ (x : List ℕ). unread x []) next) ∙ ap (unread (drop j ts)) (sym (no-word s at a e w z)) ∙ i .told)
+        let o = no-word s at a e w z in
+        unread-here m n (sym (ap (λ (x : List ℕ). unread x []) next) ∙ ap (unread (drop j ts)) (sym o) ∙ i .told)
+        (o ∙ sym (ap (λ (x : List ℕ). argumentsRest x []) next) ∙ ap (argumentsRest (drop j ts)) (sym o) ∙ i .rest)
 
     module _ (z : a ≡ e → ⊥) where
       told-next : unread (t ∷ drop (suc j) ts) (part s a e ∷ words (drop e s)) ≡ unread ts (words (drop start s))
@@ -78,12 +84,18 @@ module _ (ts s l d : List ℕ) (start at j : ℕ) (m n : List ℕ) (i : Filling 
           ∙ ap (unread (drop j ts)) (sym (one-word s at a e w z))
           ∙ i .told
 
+      rest-next : argumentsRest (t ∷ drop (suc j) ts) (part s a e ∷ words (drop e s)) ≡ argumentsRest ts (words (drop start s))
+      rest-next =
+          ap (λ (x : List ℕ). argumentsRest x (part s a e ∷ words (drop e s))) (sym next)
+          ∙ ap (argumentsRest (drop j ts)) (sym (one-word s at a e w z))
+          ∙ i .rest
+
       pub not-read : (p : List ℕ) → argument t (part s a e) ≡ Nothing → Arguments ts s l d (words (drop start s)) t at m p
-      unfolding unread
-      not-read p r = unread-here m p (sym (given-no _ _ _ r) ∙ told-next)
+      unfolding unread argumentsRest
+      not-read p r = unread-here m p (sym (given-no _ _ _ r) ∙ told-next) (one-word s at a e w z ∙ sym (given-no _ _ _ r) ∙ rest-next)
 
       pub read-on : (v : ℕ) (p : List ℕ) → argument t (part s a e) ≡ Number v → p ≡ octetsAs t (part s a e) n → length p ≡ length n → Filling ts s l d start e (j + 1) (set m (36 + j) v) p
-      unfolding unread argumentValues argumentOctets
+      unfolding unread argumentValues argumentOctets argumentsRest
       read-on v p r q y =
           let o = one-word s at a e w z in
           let up : drop (j + 1) ts ≡ drop (suc j) ts = ap (λ (f : ℕ). drop f ts) (add-one j) in
@@ -112,4 +124,5 @@ module _ (ts s l d : List ℕ) (start at j : ℕ) (m n : List ℕ) (i : Filling 
                 ap (λ (c : ℕ). drop c (part s a e ∷ words (drop e s))) (sym g)
                 ∙ ap (drop (length ts - j)) (sym o)
                 ∙ i .follows;
+            rest = ap (λ (f : List ℕ). argumentsRest f (words (drop e s))) up ∙ sym (given-yes _ _ _ v r) ∙ rest-next;
           }

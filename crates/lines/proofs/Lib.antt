@@ -10,3 +10,4 @@ pub mod Fillings
 pub mod Bounds
 pub mod Calls
 pub mod Openings
+pub mod Rests

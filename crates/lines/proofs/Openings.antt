@@ -21,7 +21,7 @@ use Rattle.lines.specs.declared.option.Took.{Took}
 use Rattle.lines.specs.declared.option.Took.the-variants.{Taken, Unknown, Unreadable}
 use Rattle.lines.specs.Argument.{names}
 use Rattle.lines.specs.Option.{optionsTook, optionsValues, Ran}
-use Rattle.lines.specs.Call.{unsaid, orElse}
+use Rattle.lines.specs.Call.{unsaid, longest, orElse}
 use Rattle.lines.specs.Open.{bitsOf, settingsOf, Within, unreadOpening, opened, openedBy, openWords, openingOf}
 use Rattle.lines.proofs.Bounds.{held-unsaid, held-options}
 
@@ -83,11 +83,11 @@ module _ (l n : List ℕ) (ws : List (List ℕ)) (u : l ≡ unsaid) (q : Took) (
 -- ---- a line
 
 module _ (line : List ℕ) where
-  pub too-long : 16384 < length line → unreadOpening Expected.ShorterLine ≡ openingOf line
+  pub too-long : longest < length line → unreadOpening Expected.ShorterLine ≡ openingOf line
   unfolding openingOf
   too-long h = sym (pick-t _ _ _ (lt-ltb _ _ h))
 
-  module _ (h : length line ≤ 16384) (s : List ℕ) (q : s ≡ take (run (other 35) line) line) (a z : ℕ) (w : WordAt s 0 a z) where
+  module _ (h : length line ≤ longest) (s : List ℕ) (q : s ≡ take (run (other 35) line) line) (a z : ℕ) (w : WordAt s 0 a z) where
     by-words : openWords (words s) ≡ openingOf line
     unfolding openingOf
     by-words = ap (λ (x : List ℕ). openWords (words x)) q ∙ sym (pick-f _ _ _ (le-ltb _ _ h))

@@ -16,7 +16,7 @@ use Rattle.text.proofs.Splits.{no-word, one-word}
 use Rattle.lines.specs.declared.option.Took.{Took}
 use Rattle.lines.specs.declared.option.Took.the-variants.{Taken, Unknown, Unreadable}
 use Rattle.lines.specs.Option as Option
-use Rattle.lines.specs.Option.{keyAt, valueAt, equalsIn, tookKey, valuesKey, took, valuesAfter, numbersAfter, valueOf, numbersFor, Stepped, andThen, optionsTook, optionsValues, optionsNumbers, Ran}
+use Rattle.lines.specs.Option.{keyAt, valueAt, equalsIn, tookKey, valuesKey, took, valuesAfter, numbersAfter, valueOf, numbersFor, Stepped, andThen, optionsTook, optionsValues, optionsNumbers, stopped, optionsRest, Ran, Stopped}
 use Rattle.lines.proofs.Values.{given-no, given-yes}
 
 pub key-names : words (ascii "at receivers centres rate centre port radio board attenuation soft hard window malformed buffer waiting length bits samples") ≡ Option.keys
@@ -106,9 +106,10 @@ pub record Running (from to : ℕ) (s l d : List ℕ) (start at : ℕ) (m n : Li
   pub told : optionsTook from to m (words (drop at s)) ≡ optionsTook from to l (words (drop start s))
   pub values : optionsValues m (words (drop at s)) ≡ optionsValues l (words (drop start s))
   pub numbers : optionsNumbers n (words (drop at s)) ≡ optionsNumbers d (words (drop start s))
+  pub rest : optionsRest from to m (words (drop at s)) ≡ optionsRest from to l (words (drop start s))
 
 pub running : (from to : ℕ) (s l d : List ℕ) (start : ℕ) → start ≤ length s → Running from to s l d start start l d
-running from to s l d start h = record { within = h; as-long = refl; as-many = refl; told = refl; values = refl; numbers = refl }
+running from to s l d start h = record { within = h; as-long = refl; as-many = refl; told = refl; values = refl; numbers = refl; rest = refl }
 
 module _ (from to : ℕ) (s l d : List ℕ) (start at : ℕ) (m n : List ℕ) (i : Running from to s l d start at m n) (a e : ℕ) (w : WordAt s at a e) where
   pub no-more : a ≡ e → Ran from to l d (words (drop start s)) Taken m n
@@ -121,6 +122,12 @@ module _ (from to : ℕ) (s l d : List ℕ) (start at : ℕ) (m n : List ℕ) (i
         numbers = λ t. sym (ap (optionsNumbers n) q) ∙ i .numbers;
       }
 
+  pub no-rest : a ≡ e → Stopped from to s l (words (drop start s)) at
+  unfolding optionsRest
+  no-rest z =
+      let q = no-word s at a e w z in
+      record { within = i .within; rest = q ∙ sym (ap (optionsRest from to m) q) ∙ i .rest }
+
   module _ (z : a ≡ e → ⊥) (r : Took) (o p : List ℕ) (t : Stepped from to m n (part s a e) r o p) where
     told-here : andThen r (optionsTook from to (valuesAfter m (part s a e)) (words (drop e s))) ≡ optionsTook from to l (words (drop start s))
     unfolding optionsTook
@@ -128,6 +135,21 @@ module _ (from to : ℕ) (s l d : List ℕ) (start at : ℕ) (m n : List ℕ) (i
         ap (λ (x : Took). andThen x (optionsTook from to (valuesAfter m (part s a e)) (words (drop e s)))) (t .told)
         ∙ sym (ap (optionsTook from to m) (one-word s at a e w z))
         ∙ i .told
+
+    rest-here : stopped r (part s a e ∷ words (drop e s)) (optionsRest from to (valuesAfter m (part s a e)) (words (drop e s))) ≡ optionsRest from to l (words (drop start s))
+    unfolding optionsRest
+    rest-here =
+        ap (λ (x : Took). stopped x (part s a e ∷ words (drop e s)) (optionsRest from to (valuesAfter m (part s a e)) (words (drop e s)))) (t .told)
+        ∙ sym (ap (optionsRest from to m) (one-word s at a e w z))
+        ∙ i .rest
+
+    pub stops-there : r ≡ Unknown → Stopped from to s l (words (drop start s)) at
+    unfolding stopped
+    stops-there q = record { within = i .within; rest = one-word s at a e w z ∙ (rw q at rest-here) }
+
+    pub stops-at-value : (k : ℕ) → r ≡ Unreadable k → Stopped from to s l (words (drop start s)) at
+    unfolding stopped
+    stops-at-value k q = record { within = i .within; rest = one-word s at a e w z ∙ (rw q at rest-here) }
 
     pub stops-unknown : r ≡ Unknown → Ran from to l d (words (drop start s)) Unknown o p
     unfolding andThen
@@ -148,7 +170,7 @@ module _ (from to : ℕ) (s l d : List ℕ) (start at : ℕ) (m n : List ℕ) (i
         }
 
     pub goes-on : r ≡ Taken → length o ≡ length m → length p ≡ length n → Running from to s l d start e o p
-    unfolding andThen optionsValues optionsNumbers
+    unfolding andThen optionsValues optionsNumbers stopped
     goes-on q x y =
         record {
           within = w .within;
@@ -163,4 +185,5 @@ module _ (from to : ℕ) (s l d : List ℕ) (start at : ℕ) (m n : List ℕ) (i
               ap (λ (v : List ℕ). optionsNumbers v (words (drop e s))) (t .numbers q)
               ∙ sym (ap (optionsNumbers n) (one-word s at a e w z))
               ∙ i .numbers;
+          rest = ap (λ (v : List ℕ). optionsRest from to v (words (drop e s))) (t .values q) ∙ (rw q at rest-here);
         }

@@ -88,10 +88,17 @@ argumentOctets [] ws d = d
 argumentOctets (t ∷ ts) [] d = d
 argumentOctets (t ∷ ts) (w ∷ ws) d = argumentOctets ts ws (octetsAs t w d)
 
--- the words ws were read by a form; what s has from at on follows them
+-- the words from the first on that isn't there or can't be read; those behind the form where there is none
+unfoldable pub argumentsRest : List ℕ → List (List ℕ) → List (List ℕ)
+argumentsRest [] ws = ws
+argumentsRest (t ∷ ts) [] = []
+argumentsRest (t ∷ ts) (w ∷ ws) = given (argument t w) (λ n. argumentsRest ts ws) (w ∷ ws)
+
+-- the words ws were read by a form; what s has from at on follows them, or is where it stopped
 pub record Arguments (ts : List ℕ) (s l d : List ℕ) (ws : List (List ℕ)) (r at : ℕ) (m e : List ℕ) : Type 0 where
   pub told : r ≡ unread ts ws
   pub within : at ≤ length s
   pub values : r ≡ 6 → m ≡ argumentValues 36 ts ws l
   pub octets : r ≡ 6 → e ≡ argumentOctets ts ws d
   pub follows : r ≡ 6 → words (drop at s) ≡ drop (length ts) ws
+  pub rest : words (drop at s) ≡ argumentsRest ts ws

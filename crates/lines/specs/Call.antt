@@ -68,8 +68,12 @@ readWords (w ∷ ws) =
 abbrev pub wordsOf : List ℕ → List (List ℕ)
 wordsOf line = words (take (run (other 35) line) line)
 
+-- the most octets of a line: 8193 waiting numbers of ten digits and a comma fit
+abbrev pub longest : ℕ
+longest = 100000
+
 unfoldable pub readLine : List ℕ → Read
-readLine line = pick (ltb 16384 (length line)) (Read.Unread Expected.ShorterLine) (readWords (wordsOf line))
+readLine line = pick (ltb longest (length line)) (Read.Unread Expected.ShorterLine) (readWords (wordsOf line))
 
 -- ---- what its call gives
 

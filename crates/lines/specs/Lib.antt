@@ -7,3 +7,4 @@ pub mod Option
 pub mod Argument
 pub mod Call
 pub mod Open
+pub mod Found

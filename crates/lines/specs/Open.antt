@@ -21,7 +21,7 @@ use Rattle.lines.specs.declared.option.Took.{Took}
 use Rattle.lines.specs.declared.option.Took.the-variants.{Taken, Unknown, Unreadable}
 use Rattle.lines.specs.Argument.{names}
 use Rattle.lines.specs.Option.{limits, optionsTook, optionsValues}
-use Rattle.lines.specs.Call.{unsaid, wordsOf, orElse}
+use Rattle.lines.specs.Call.{unsaid, longest, wordsOf, orElse}
 
 -- a whole number's double, as its bits
 abbrev pub bitsOf : ℕ → ℕ
@@ -76,4 +76,4 @@ openWords [] = unreadOpening Expected.Open
 openWords (w ∷ ws) = pick (eqb (place w names) 11) (openedBy ws) (unreadOpening Expected.Open)
 
 unfoldable pub openingOf : List ℕ → Opening
-openingOf line = pick (ltb 16384 (length line)) (unreadOpening Expected.ShorterLine) (openWords (wordsOf line))
+openingOf line = pick (ltb longest (length line)) (unreadOpening Expected.ShorterLine) (openWords (wordsOf line))

@@ -1,5 +1,5 @@
 -- Options, key=value: the keys, what each takes, and what a run of them leaves. Definitions only.
-use Prim.Native.Nat.{ℕ, _+_}
+use Prim.Native.Nat.{ℕ, _+_, _≤_}
 use mathlib.Core.Path.{_≡_}
 use mathlib.Core.Bool.{Bool}
 use mathlib.Core.List.{List, [], _∷_}
@@ -10,6 +10,7 @@ use Rattle.octets.specs.Written.{written}
 use Rattle.text.specs.Run.{run, other}
 use Rattle.text.specs.Name.{ascii, named, place, same}
 use Rattle.text.specs.Number.{digitsOf}
+use Rattle.text.specs.Split.{words}
 use Rattle.text.specs.declared.Spelt.{Spelt}
 use Rattle.text.specs.declared.Spelt.the-variants.{Number}
 use Rattle.lines.specs.declared.option.Took.{Took}
@@ -155,7 +156,22 @@ unfoldable pub optionsNumbers : List ℕ → List (List ℕ) → List ℕ
 optionsNumbers d [] = d
 optionsNumbers d (w ∷ ws) = optionsNumbers (numbersAfter d w) ws
 
+-- the words from the one on at which a run stops; none where it takes them all
+unfoldable pub stopped : Took → List (List ℕ) → List (List ℕ) → List (List ℕ)
+stopped Taken here on = on
+stopped Unknown here on = here
+stopped (Unreadable k) here on = here
+
+unfoldable pub optionsRest : ℕ → ℕ → List ℕ → List (List ℕ) → List (List ℕ)
+optionsRest from to l [] = []
+optionsRest from to l (w ∷ ws) = stopped (took from to l w) (w ∷ ws) (optionsRest from to (valuesAfter l w) ws)
+
 pub record Ran (from to : ℕ) (l d : List ℕ) (ws : List (List ℕ)) (r : Took) (m e : List ℕ) : Type 0 where
   pub told : r ≡ optionsTook from to l ws
   pub values : r ≡ Taken → m ≡ optionsValues l ws
   pub numbers : r ≡ Taken → e ≡ optionsNumbers d ws
+
+-- a run of the words ws stopped in s at at
+pub record Stopped (from to : ℕ) (s l : List ℕ) (ws : List (List ℕ)) (at : ℕ) : Type 0 where
+  pub within : at ≤ length s
+  pub rest : words (drop at s) ≡ optionsRest from to l ws

@@ -5,6 +5,7 @@ ghost use lib.ListN.{length, drop};
 ghost use Rattle.text.specs.Split.{words};
 ghost use Rattle.lines.specs.Call as Call;
 use super::Expected;
+use super::LONGEST;
 use super::Read;
 use super::argument::arguments;
 use super::datagram::put_iq;
@@ -17,7 +18,7 @@ pub(crate) const NAMES: [u8; 81] =
     *b"begin pass iq status datagram take close missing discontinuity stalled state open";
 
 // The keys from 13 on are the calls'; a call has those up to its own here.
-const ENDS: [usize; 12] = [13, 14, 18, 15, 15, 13, 14, 13, 13, 13, 13, 13];
+pub(crate) const ENDS: [usize; 12] = [13, 14, 18, 15, 15, 13, 14, 13, 13, 13, 13, 13];
 
 // As eight numbers say it: begin, pass, an arrival, take, close, missing, discontinuity, stalled.
 const KINDS: [u64; 12] = [0, 1, 2, 2, 2, 3, 4, 5, 6, 7, 0, 0];
@@ -184,7 +185,8 @@ fn read_named(
     if unread != 6 {
         return Read::Unread(expected_word(unread));
     }
-    let took = options(s, start, 13, ENDS[name], &mut *values, &mut *numbers);
+    let run = options(s, start, 13, ENDS[name], &mut *values, &mut *numbers);
+    let took = run.took;
     match took {
         Took::Unknown => return Read::Unread(Expected::End),
         Took::Unreadable(key) => return Read::Unread(Expected::ValueOf(key)),
@@ -210,7 +212,7 @@ pub(crate) fn read_line(
     requires { ⌜ (now values ≡ Call.unsaid) × (length (now call) ≡ 8) × (2048 ≤ length (now octets)) × (8193 ≤ length (now numbers)) ⌝ }
     ensures { λ r. ⌜ Call.Line (now (line .entry)) ip port (now (octets .entry)) (now (numbers .entry)) r (now (call .exit)) (now (octets .exit)) (now (numbers .exit)) ⌝ }
 {
-    if line.len() > 16384 {
+    if line.len() > LONGEST {
         return Read::Unread(Expected::ShorterLine);
     }
     let comment = text::find(line, b'#');

@@ -2,7 +2,9 @@
 ghost use mathlib.Core.Path.{_≡_};
 ghost use Rattle.lines.specs.Call.{Line};
 ghost use Rattle.lines.specs.Open.{openingOf};
+ghost use Rattle.lines.specs.Found.{Found};
 use account::settings::Settings;
+use text::Word;
 
 mod address;
 mod argument;
@@ -12,7 +14,11 @@ mod hexadecimal;
 mod open;
 pub mod option;
 mod reading;
+mod stops;
 mod waiting;
+
+// The most octets of a line: a longer one is not read.
+pub const LONGEST: usize = 100000;
 
 // What was expected, as CALLS.md's Errors has it. Open and FewerStretches are for whoever runs the calls.
 pub enum Expected {
@@ -72,4 +78,14 @@ pub fn read_open(line: &[u8]) -> Opening
     let mut values = [0u64; 40];
     let mut numbers = [0u32; 8193];
     open::read_settings(line, &mut values, &mut numbers)
+}
+
+// The word of a line that can't be read, for whoever tells of it. It ends where it starts if the line ends there, or can be read.
+pub fn found(line: &[u8]) -> Word
+    ensures { λ r. ⌜ Found (now (line .entry)) (r .start) (r .end) ⌝ }
+{
+    let mut values = [0u64; 40];
+    let mut octets = [0u8; 2048];
+    let mut numbers = [0u32; 8193];
+    stops::found_in(line, &mut values, &mut octets, &mut numbers)
 }

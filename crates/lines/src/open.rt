@@ -8,6 +8,7 @@ ghost use Rattle.wire.specs.Board.{boardInfo};
 ghost use Rattle.lines.specs.Call.{unsaid};
 ghost use Rattle.lines.specs.Open as Open;
 use super::Expected;
+use super::LONGEST;
 use super::Opening;
 use super::Read;
 use super::call::NAMES;
@@ -115,7 +116,8 @@ fn opened(s: &[u8], at: usize, values: &mut [u64], numbers: &mut [u32]) -> Openi
     requires { ⌜ (at ≤ length (now s)) × (now values ≡ unsaid) × (8193 ≤ length (now numbers)) ⌝ }
     ensures { λ r. ⌜ r ≡ Open.openedBy (words (drop at (now (s .entry)))) ⌝ }
 {
-    let took = options(s, at, 0, 13, &mut *values, &mut *numbers);
+    let run = options(s, at, 0, 13, &mut *values, &mut *numbers);
+    let took = run.took;
     match took {
         Took::Unknown => return unread(Expected::Setting),
         Took::Unreadable(key) => return unread(Expected::ValueOf(key)),
@@ -132,7 +134,7 @@ pub(crate) fn read_settings(line: &[u8], values: &mut [u64], numbers: &mut [u32]
     requires { ⌜ (now values ≡ unsaid) × (8193 ≤ length (now numbers)) ⌝ }
     ensures { λ r. ⌜ r ≡ Open.openingOf (now (line .entry)) ⌝ }
 {
-    if line.len() > 16384 {
+    if line.len() > LONGEST {
         return unread(Expected::ShorterLine);
     }
     let comment = text::find(line, b'#');

@@ -129,6 +129,12 @@ fn take_option(w: &[u8], from: usize, to: usize, values: &mut [u64], numbers: &m
     Took::Taken
 }
 
+// A run of words: what it came to, and where it stopped.
+pub(crate) struct Run {
+    pub(crate) took: Took,
+    pub(crate) at: usize,
+}
+
 // The words of s from `start` on.
 pub(crate) fn options(
     s: &[u8],
@@ -137,9 +143,9 @@ pub(crate) fn options(
     to: usize,
     values: &mut [u64],
     numbers: &mut [u32],
-) -> Took
+) -> Run
     requires { ⌜ (start ≤ length (now s)) × (to ≤ 18) × (36 ≤ length (now values)) × (8193 ≤ length (now numbers)) ⌝ }
-    ensures { λ r. ⌜ Option.Ran from to (now (values .entry)) (now (numbers .entry)) (words (drop start (now (s .entry)))) r (now (values .exit)) (now (numbers .exit)) ⌝ }
+    ensures { λ r. ⌜ Option.Ran from to (now (values .entry)) (now (numbers .entry)) (words (drop start (now (s .entry)))) (r .took) (now (values .exit)) (now (numbers .exit)) × Option.Stopped from to (now (s .entry)) (now (values .entry)) (words (drop start (now (s .entry)))) (r .at) ⌝ }
 {
     let mut at = start;
     loop {
@@ -147,13 +153,26 @@ pub(crate) fn options(
         let from_word = word.start;
         let end = word.end;
         if from_word == end {
-            return Took::Taken;
+            return Run {
+                took: Took::Taken,
+                at,
+            };
         }
         let took = take_option(&s[from_word..end], from, to, &mut *values, &mut *numbers);
         match took {
             Took::Taken => at = end,
-            Took::Unknown => return Took::Unknown,
-            Took::Unreadable(key) => return Took::Unreadable(key),
+            Took::Unknown => {
+                return Run {
+                    took: Took::Unknown,
+                    at,
+                };
+            }
+            Took::Unreadable(key) => {
+                return Run {
+                    took: Took::Unreadable(key),
+                    at,
+                };
+            }
         }
     }
 }

@@ -1,12 +1,12 @@
 -- The first part of a text, its first word, and what follows each. Assumes nothing.
 use mathlib.Core.Path.{_≡_, refl, sym, ap, _∙_}
 use mathlib.Core.Bool.{Bool, true, false, not, cond}
-use mathlib.Core.List.{List, [], _∷_}
+use mathlib.Core.List.{List, [], _∷_, _++_}
 use Prim.Native.Nat.{ℕ, zero, suc, _+_, _-_, _≤_, _<_}
 use native.Mathlib.Numerals.{add-one}
 use native.Mathlib.Omega.{arith}
-use lib.ListN.{length, take, drop, length-take, length-drop, drop-of-length-le}
-use lib.Seq.{drop-drop, drop-cons, take-all}
+use lib.ListN.{length, take, drop, length-take, length-drop, take-append-drop, drop-of-length-le}
+use lib.Seq.{drop-drop, drop-cons, take-all, take-append-le, drop-append-le}
 use Rattle.text.specs.Run.{run, is, other}
 use Rattle.text.specs.Split.{grown, parts, notEmpty, blank, filled, words, before, part, WordAt}
 
@@ -148,3 +148,11 @@ module _ (s : List ℕ) (at start end : ℕ) (w : WordAt s at start end) where
       go : (v : List ℕ) → (v ≡ [] → ⊥) → before v (words (drop end s)) ≡ v ∷ words (drop end s)
       go [] h = absurd (h refl)
       go (x ∷ xs) h = refl
+
+-- a part of a text's front is one of the text
+pub part-front : (s : List ℕ) (n a e : ℕ) → a ≤ e → e ≤ length (take n s) → part s a e ≡ part (take n s) a e
+part-front s n a e o h =
+    let f = take n s in
+    ap (λ (l : List ℕ). part l a e) (sym (take-append-drop n s))
+    ∙ ap (take (e - a)) (drop-append-le a f (drop n s) (omega arith))
+    ∙ take-append-le (e - a) (drop a f) (drop n s) (simp length-drop (omega arith))

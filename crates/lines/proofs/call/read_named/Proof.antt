@@ -47,7 +47,7 @@ same-length-5 : tie.Need-same-length-5
 same-length-5 c = search needs
 
 returns-2 : tie.Need-returns-2
-returns-2 c = unknown-word _ _ _ _ _ _ _ _ (c .before .before .before .before .before .before .before .before .before .before .before .before .before .before .before .before .before .before .before .before .before .before .pre .2) _ _ _ _ (c .before .before .before .before .before .before .before .before .before .before .before .before .before .before .arguments .ensures) (c .before .before .before .before .before .before .before .before .before .if1 .left) _ refl _ _ _ (c .before .before .before .before .before .before .options .ensures) (c .enum-told .given .1) _ _ _
+returns-2 c = unknown-word _ _ _ _ _ _ _ _ (c .before .before .before .before .before .before .before .before .before .before .before .before .before .before .before .before .before .before .before .before .before .before .pre .2) _ _ _ _ (c .before .before .before .before .before .before .before .before .before .before .before .before .before .before .arguments .ensures) (c .before .before .before .before .before .before .before .before .before .if1 .left) _ refl _ _ _ (c .before .before .before .before .before .before .options .ensures .0) (c .enum-told .given .1) _ _ _
 
 enum-known-took : tie.Need-enum-known-took
 enum-known-took c = search needs
@@ -62,7 +62,7 @@ same-length-8 : tie.Need-same-length-8
 same-length-8 c = search needs
 
 returns-3 : tie.Need-returns-3
-returns-3 c = unread-value _ _ _ _ _ _ _ _ (c .before .before .before .before .before .before .before .before .before .before .before .before .before .before .before .before .before .before .before .before .before .before .before .pre .2) _ _ _ _ (c .before .before .before .before .before .before .before .before .before .before .before .before .before .before .before .arguments .ensures) (c .before .before .before .before .before .before .before .before .before .before .if1 .left) _ refl _ _ _ (c .before .before .before .before .before .before .before .options .ensures) _ (c .before .took .given .1) _ _ _
+returns-3 c = unread-value _ _ _ _ _ _ _ _ (c .before .before .before .before .before .before .before .before .before .before .before .before .before .before .before .before .before .before .before .before .before .before .before .pre .2) _ _ _ _ (c .before .before .before .before .before .before .before .before .before .before .before .before .before .before .before .arguments .ensures) (c .before .before .before .before .before .before .before .before .before .before .if1 .left) _ refl _ _ _ (c .before .before .before .before .before .before .before .options .ensures .0) _ (c .before .took .given .1) _ _ _
 
 enum-told-2 : tie.Need-enum-told-2
 enum-told-2 c = search needs
@@ -77,13 +77,13 @@ same-length-11 : tie.Need-same-length-11
 same-length-11 c = search needs
 
 returns-4 : tie.Need-returns-4
-returns-4 c = state _ _ _ _ _ _ _ _ (c .before .before .before .before .before .before .before .before .before .before .before .before .before .before .before .before .before .before .before .before .before .before .before .pre .2) _ _ _ _ (c .before .before .before .before .before .before .before .before .before .before .before .before .before .before .before .arguments .ensures) (c .before .before .before .before .before .before .before .before .before .before .if1 .left) _ refl _ _ _ (c .before .before .before .before .before .before .before .options .ensures) (c .before .enum-told2 .given .1) (c .if2 .taken) _ _ _
+returns-4 c = state _ _ _ _ _ _ _ _ (c .before .before .before .before .before .before .before .before .before .before .before .before .before .before .before .before .before .before .before .before .before .before .before .pre .2) _ _ _ _ (c .before .before .before .before .before .before .before .before .before .before .before .before .before .before .before .arguments .ensures) (c .before .before .before .before .before .before .before .before .before .before .if1 .left) _ refl _ _ _ (c .before .before .before .before .before .before .before .options .ensures .0) (c .before .enum-told2 .given .1) (c .if2 .taken) _ _ _
 
 put-call-requires : tie.Need-put-call-requires
 put-call-requires c κs = (omega (arith, c .before .before .before .before .before .before .before .before .before .before .before .before .before .before .before .before .before .before .before .before .before .before .before .before .before .pre .1), omega (arith, ap length (c .before .before .before .before .before .before .before .before .before .before .before .before .before .before .before .before .before .before .before .before .before .before .before .before .before .pre .2), c .before .before .before .before .before .before .before .before .before .before .before .before .before .before .before .before .before .arguments .kept .1 .1 .1 .0, c .before .before .before .before .before .before .before .before .before .options .kept .1 .1 .1 .1 .0), c .before .before .before .before .before .before .before .before .before .before .before .before .before .before .before .before .before .before .before .before .before .before .before .before .before .pre .3)
 
 put-datagram-requires : tie.Need-put-datagram-requires
-put-datagram-requires c κs = (omega (arith, ap length (c .before .before .before .before .before .before .before .before .before .before .before .before .before .before .before .before .before .before .before .before .before .before .before .before .before .before .before .before .before .before .pre .2), c .before .before .before .before .before .before .before .before .before .before .before .before .before .before .before .before .before .before .before .before .before .before .arguments .kept .1 .1 .1 .0, c .before .before .before .before .before .before .before .before .before .before .before .before .before .before .options .kept .1 .1 .1 .1 .0), omega (arith, c .before .before .before .before .before .before .before .before .before .before .before .before .before .before .before .before .before .before .before .before .before .before .before .before .before .before .before .before .before .before .pre .4, c .before .before .before .before .before .before .before .before .before .before .before .before .before .before .before .before .before .before .before .before .before .before .arguments .kept .1 .1 .1 .1 .0), small _ _ (held _ 0 0 _ _ _ _ _ (c .before .before .before .before .before .before .before .before .before .before .before .before .before .before .before .before .before .before .before .before .before .before .before .before .before .before .before .before .before .before .pre .2) _ _ _ _ (c .before .before .before .before .before .before .before .before .before .before .before .before .before .before .before .before .before .before .before .before .before .before .arguments .ensures) (c .before .before .before .before .before .before .before .before .before .before .before .before .before .before .before .before .before .if1 .left) _ refl _ _ _ (c .before .before .before .before .before .before .before .before .before .before .before .before .before .before .options .ensures) (c .before .before .before .before .before .before .before .before .enum-told2 .given .1)))
+put-datagram-requires c κs = (omega (arith, ap length (c .before .before .before .before .before .before .before .before .before .before .before .before .before .before .before .before .before .before .before .before .before .before .before .before .before .before .before .before .before .before .pre .2), c .before .before .before .before .before .before .before .before .before .before .before .before .before .before .before .before .before .before .before .before .before .before .arguments .kept .1 .1 .1 .0, c .before .before .before .before .before .before .before .before .before .before .before .before .before .before .options .kept .1 .1 .1 .1 .0), omega (arith, c .before .before .before .before .before .before .before .before .before .before .before .before .before .before .before .before .before .before .before .before .before .before .before .before .before .before .before .before .before .before .pre .4, c .before .before .before .before .before .before .before .before .before .before .before .before .before .before .before .before .before .before .before .before .before .before .arguments .kept .1 .1 .1 .1 .0), small _ _ (held _ 0 0 _ _ _ _ _ (c .before .before .before .before .before .before .before .before .before .before .before .before .before .before .before .before .before .before .before .before .before .before .before .before .before .before .before .before .before .before .pre .2) _ _ _ _ (c .before .before .before .before .before .before .before .before .before .before .before .before .before .before .before .before .before .before .before .before .before .before .arguments .ensures) (c .before .before .before .before .before .before .before .before .before .before .before .before .before .before .before .before .before .if1 .left) _ refl _ _ _ (c .before .before .before .before .before .before .before .before .before .before .before .before .before .before .options .ensures .0) (c .before .before .before .before .before .before .before .before .enum-told2 .given .1)))
 
 same-length-12 : tie.Need-same-length-12
 same-length-12 c = search needs
@@ -98,7 +98,7 @@ same-length-15 : tie.Need-same-length-15
 same-length-15 c = search needs
 
 returns-5 : tie.Need-returns-5
-returns-5 c = done _ _ _ _ _ _ _ _ (c .before .before .before .before .before .before .before .before .before .before .before .before .before .before .before .before .before .before .before .before .before .before .before .before .before .before .before .before .before .before .before .before .before .pre .2) _ _ _ _ (c .before .before .before .before .before .before .before .before .before .before .before .before .before .before .before .before .before .before .before .before .before .before .before .before .before .arguments .ensures) (c .before .before .before .before .before .before .before .before .before .before .before .before .before .before .before .before .before .before .before .before .if1 .left) _ refl _ _ _ (c .before .before .before .before .before .before .before .before .before .before .before .before .before .before .before .before .before .options .ensures) (c .before .before .before .before .before .before .before .before .before .before .before .enum-told2 .given .1) (c .before .before .before .before .before .before .before .before .before .before .if2 .left) (c .before .before .before .before .before .before .before .before .before .before .before .before .before .before .before .before .before .before .before .before .before .before .before .before .before .before .before .before .before .before .before .before .before .fits .ip .fits) _ _ (c .before .before .before .before .before .before .before .put-call .ensures) (c .before .before .put-datagram .ensures)
+returns-5 c = done _ _ _ _ _ _ _ _ (c .before .before .before .before .before .before .before .before .before .before .before .before .before .before .before .before .before .before .before .before .before .before .before .before .before .before .before .before .before .before .before .before .before .pre .2) _ _ _ _ (c .before .before .before .before .before .before .before .before .before .before .before .before .before .before .before .before .before .before .before .before .before .before .before .before .before .arguments .ensures) (c .before .before .before .before .before .before .before .before .before .before .before .before .before .before .before .before .before .before .before .before .if1 .left) _ refl _ _ _ (c .before .before .before .before .before .before .before .before .before .before .before .before .before .before .before .before .before .options .ensures .0) (c .before .before .before .before .before .before .before .before .before .before .before .enum-told2 .given .1) (c .before .before .before .before .before .before .before .before .before .before .if2 .left) (c .before .before .before .before .before .before .before .before .before .before .before .before .before .before .before .before .before .before .before .before .before .before .before .before .before .before .before .before .before .before .before .before .before .fits .ip .fits) _ _ (c .before .before .before .before .before .before .before .put-call .ensures) (c .before .before .put-datagram .ensures)
 
 pub read-named-spec : {M : Type 1} → statement M
 read-named-spec =

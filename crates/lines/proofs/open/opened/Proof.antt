@@ -23,7 +23,7 @@ same-length-2 : tie.Need-same-length-2
 same-length-2 c = search needs
 
 returns : tie.Need-returns
-returns c = c .unread .ensures ∙ not-a-setting _ _ _ (c .before .before .before .before .before .before .before .before .before .before .before .before .before .pre .1) _ _ _ (c .before .before .before .before .before .before .before .options .ensures) (c .before .enum-told .given .1)
+returns c = c .unread .ensures ∙ not-a-setting _ _ _ (c .before .before .before .before .before .before .before .before .before .before .before .before .before .pre .1) _ _ _ (c .before .before .before .before .before .before .before .options .ensures .0) (c .before .enum-told .given .1)
 
 enum-known-took : tie.Need-enum-known-took
 enum-known-took c = search needs
@@ -38,7 +38,7 @@ same-length-4 : tie.Need-same-length-4
 same-length-4 c = search needs
 
 returns-2 : tie.Need-returns-2
-returns-2 c = c .unread2 .ensures ∙ no-value _ _ _ (c .before .before .before .before .before .before .before .before .before .before .before .before .before .before .pre .1) _ _ _ (c .before .before .before .before .before .before .before .before .options .ensures) _ (c .before .before .took .given .1)
+returns-2 c = c .unread2 .ensures ∙ no-value _ _ _ (c .before .before .before .before .before .before .before .before .before .before .before .before .before .before .pre .1) _ _ _ (c .before .before .before .before .before .before .before .before .options .ensures .0) _ (c .before .before .took .given .1)
 
 enum-told-2 : tie.Need-enum-told-2
 enum-told-2 c = search needs
@@ -47,7 +47,7 @@ or-else-requires : tie.Need-or-else-requires
 or-else-requires c κs = (search needs, omega (arith, ap length (c .before .before .before .before .before .before .before .before .before .before .before .before .before .pre .1), c .before .before .before .before .before .before .before .options .kept .1 .1 .1 .1 .0))
 
 settings-of-requires : tie.Need-settings-of-requires
-settings-of-requires c κs = (omega (arith, ap length (c .before .before .before .before .before .before .before .before .before .before .before .before .before .before .before .pre .1), c .before .before .before .before .before .before .before .before .before .options .kept .1 .1 .1 .1 .0), within _ _ _ (c .before .before .before .before .before .before .before .before .before .before .before .before .before .before .before .pre .1) _ _ _ (c .before .before .before .before .before .before .before .before .before .options .ensures) (c .before .before .before .enum-told2 .given .1))
+settings-of-requires c κs = (omega (arith, ap length (c .before .before .before .before .before .before .before .before .before .before .before .before .before .before .before .pre .1), c .before .before .before .before .before .before .before .before .before .options .kept .1 .1 .1 .1 .0), within _ _ _ (c .before .before .before .before .before .before .before .before .before .before .before .before .before .before .before .pre .1) _ _ _ (c .before .before .before .before .before .before .before .before .before .options .ensures .0) (c .before .before .before .enum-told2 .given .1))
 
 same-length-5 : tie.Need-same-length-5
 same-length-5 c = search needs
@@ -56,7 +56,7 @@ same-length-6 : tie.Need-same-length-6
 same-length-6 c = search needs
 
 returns-3 : tie.Need-returns-3
-returns-3 c = rw (c .before .before .or-else .ensures, c .settings-of .ensures) (all-said _ _ _ (c .before .before .before .before .before .before .before .before .before .before .before .before .before .before .before .before .pre .1) _ _ _ (c .before .before .before .before .before .before .before .before .before .before .options .ensures) (c .before .before .before .before .enum-told2 .given .1))
+returns-3 c = rw (c .before .before .or-else .ensures, c .settings-of .ensures) (all-said _ _ _ (c .before .before .before .before .before .before .before .before .before .before .before .before .before .before .before .before .pre .1) _ _ _ (c .before .before .before .before .before .before .before .before .before .before .options .ensures .0) (c .before .before .before .before .enum-told2 .given .1))
 
 pub opened-spec : {M : Type 1} → statement M
 opened-spec =

@@ -1,7 +1,7 @@
 -- `lines::option::options` takes the words one by one. Assumes nothing.
 use Prim.Native.Nat.{_-_}
 use lib.ListN.{length}
-use Rattle.lines.proofs.Options.{Running, running, no-more, stops-unknown, stops-unread, goes-on}
+use Rattle.lines.proofs.Options.{Running, running, no-more, no-rest, stops-unknown, stops-there, stops-unread, stops-at-value, goes-on}
 use borrow.Author.Needs.{needs}
 use Rattle.lines.proofs.option.options.Statement.{statement}
 use Rattle.lines.proofs.option.options.Tie as tie
@@ -25,7 +25,7 @@ same-length-2 : tie.Need-same-length-2 Inv-loop μ-loop
 same-length-2 c = search needs
 
 returns : tie.Need-returns Inv-loop μ-loop
-returns c = no-more _ _ _ _ _ _ _ _ _ (c .before .before .loop .inv) _ _ (c .before .word-at .ensures) (c .if1 .taken)
+returns c = (no-more _ _ _ _ _ _ _ _ _ (c .before .before .loop .inv) _ _ (c .before .word-at .ensures) (c .if1 .taken), no-rest _ _ _ _ _ _ _ _ _ (c .before .before .loop .inv) _ _ (c .before .word-at .ensures) (c .if1 .taken))
 
 sub-take-option : tie.Need-sub-take-option Inv-loop μ-loop
 sub-take-option c = search needs
@@ -58,7 +58,7 @@ same-length-4 : tie.Need-same-length-4 Inv-loop μ-loop
 same-length-4 c = search needs
 
 returns-2 : tie.Need-returns-2 Inv-loop μ-loop
-returns-2 c = stops-unknown _ _ _ _ _ _ _ _ _ (c .before .before .before .before .before .before .before .before .before .before .before .before .loop .inv) _ _ (c .before .before .before .before .before .before .before .before .before .before .before .word-at .ensures) (c .before .before .before .before .before .before .before .before .before .before .if1 .left) _ _ _ (c .before .before .before .before .before .before .take-option .ensures) (c .enum-told2 .given .1)
+returns-2 c = (stops-unknown _ _ _ _ _ _ _ _ _ (c .before .before .before .before .before .before .before .before .before .before .before .before .loop .inv) _ _ (c .before .before .before .before .before .before .before .before .before .before .before .word-at .ensures) (c .before .before .before .before .before .before .before .before .before .before .if1 .left) _ _ _ (c .before .before .before .before .before .before .take-option .ensures) (c .enum-told2 .given .1), stops-there _ _ _ _ _ _ _ _ _ (c .before .before .before .before .before .before .before .before .before .before .before .before .loop .inv) _ _ (c .before .before .before .before .before .before .before .before .before .before .before .word-at .ensures) (c .before .before .before .before .before .before .before .before .before .before .if1 .left) _ _ _ (c .before .before .before .before .before .before .take-option .ensures) (c .enum-told2 .given .1))
 
 enum-known-took : tie.Need-enum-known-took Inv-loop μ-loop
 enum-known-took c = search needs
@@ -70,7 +70,7 @@ same-length-6 : tie.Need-same-length-6 Inv-loop μ-loop
 same-length-6 c = search needs
 
 returns-3 : tie.Need-returns-3 Inv-loop μ-loop
-returns-3 c = stops-unread _ _ _ _ _ _ _ _ _ (c .before .before .before .before .before .before .before .before .before .before .before .before .before .loop .inv) _ _ (c .before .before .before .before .before .before .before .before .before .before .before .before .word-at .ensures) (c .before .before .before .before .before .before .before .before .before .before .before .if1 .left) _ _ _ (c .before .before .before .before .before .before .before .take-option .ensures) _ (c .before .took .given .1)
+returns-3 c = (stops-unread _ _ _ _ _ _ _ _ _ (c .before .before .before .before .before .before .before .before .before .before .before .before .before .loop .inv) _ _ (c .before .before .before .before .before .before .before .before .before .before .before .before .word-at .ensures) (c .before .before .before .before .before .before .before .before .before .before .before .if1 .left) _ _ _ (c .before .before .before .before .before .before .before .take-option .ensures) _ (c .before .took .given .1), stops-at-value _ _ _ _ _ _ _ _ _ (c .before .before .before .before .before .before .before .before .before .before .before .before .before .loop .inv) _ _ (c .before .before .before .before .before .before .before .before .before .before .before .before .word-at .ensures) (c .before .before .before .before .before .before .before .before .before .before .before .if1 .left) _ _ _ (c .before .before .before .before .before .before .before .take-option .ensures) _ (c .before .took .given .1))
 
 pub options-spec : {M : Type 1} → statement M
 options-spec =

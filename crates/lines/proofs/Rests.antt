@@ -1,0 +1,85 @@
+-- Where the reading of a line stops: what each way through gives. Assumes nothing.
+use mathlib.Core.Path.{_≡_, refl, sym, ap, _∙_}
+use mathlib.Core.List.{List, [], _∷_}
+use Prim.Native.Nat.{ℕ, _≤_, _<_}
+use native.Mathlib.Omega.{arith}
+use borrow.Author.Tests.{lt-ltb, le-ltb, eq-eqb, ne-eqb}
+use lib.ListN.{length, take, drop, getD, length-take}
+use Rattle.octets.proofs.Picks.{pick-t, pick-f}
+use Rattle.text.specs.Run.{run, other}
+use Rattle.text.specs.Name.{place}
+use Rattle.text.specs.Split.{words, before, part, WordAt}
+use Rattle.text.proofs.Splits.{no-word, one-word, part-front}
+use Rattle.lines.specs.Argument.{names, form, argumentValues, Arguments}
+use Rattle.lines.specs.Option.{optionsRest, Stopped}
+use Rattle.lines.specs.Call.{ends, unsaid, argumentsOf}
+use Rattle.lines.specs.Found.{restNamed, restWords, firstWord, foundIn, Found}
+
+-- ---- among the words after a name
+
+module _ (name : ℕ) (s l : List ℕ) (ws : List (List ℕ)) (u : l ≡ unsaid) where
+  pub at-setting : name ≡ 11 → (at : ℕ) → Stopped 0 13 s l ws at → (at ≤ length s) × (words (drop at s) ≡ restNamed name ws)
+  unfolding restNamed
+  at-setting e at h = (h .within, h .rest ∙ ap (λ (x : List ℕ). optionsRest 0 13 x ws) u ∙ sym (pick-t _ _ _ (eq-eqb name 11 e)))
+
+  module _ (f : name ≡ 11 → ⊥) (d : List ℕ) (r at : ℕ) (m e : List ℕ) (g : Arguments (form name) s l d ws r at m e) where
+    pub at-word : (r ≡ 6 → ⊥) → (at ≤ length s) × (words (drop at s) ≡ restNamed name ws)
+    unfolding restNamed
+    at-word h =
+        (g .within, g .rest ∙ sym (pick-f _ _ _ (ne-eqb name 11 f) ∙ pick-f _ _ _ (ne-eqb _ _ (λ q. h (g .told ∙ q)))))
+
+    pub at-option : r ≡ 6 → (to : ℕ) → to ≡ getD ends name 0 → (z : ℕ) → Stopped 13 to s m (words (drop at s)) z
+        → (z ≤ length s) × (words (drop z s) ≡ restNamed name ws)
+    unfolding restNamed
+    at-option h to k z o =
+        let v : m ≡ argumentsOf name ws = g .values h ∙ ap (argumentValues 36 (form name) ws) u in (
+          o .within,
+          o .rest
+              ∙ ap (λ (x : ℕ). optionsRest 13 x m (words (drop at s))) k
+              ∙ ap (λ (x : List ℕ). optionsRest 13 (getD ends name 0) x (words (drop at s))) v
+              ∙ ap (optionsRest 13 (getD ends name 0) (argumentsOf name ws)) (g .follows h)
+              ∙ sym (pick-f _ _ _ (ne-eqb name 11 f) ∙ pick-t _ _ _ (eq-eqb _ _ (sym (g .told) ∙ h))),
+        )
+
+-- ---- in a line
+
+first-before : (w : List ℕ) (ws : List (List ℕ)) → firstWord (before w ws) ≡ w
+unfolding firstWord before
+first-before [] ws = refl
+first-before (x ∷ xs) ws = refl
+
+module _ (line s : List ℕ) (q : s ≡ take (run (other 35) line) line) where
+  -- the word at which the words that can be read end
+  pub stands : (at a e : ℕ) → WordAt s at a e → words (drop at s) ≡ restWords (words s) → Found line a e
+  unfolding foundIn
+  stands at a e w r =
+      record {
+        ordered = w .ordered;
+        within = omega (arith, w .within, ap length q, length-take (run (other 35) line) line);
+        word =
+            part-front line (run (other 35) line) a e (w .ordered) (rw q at (w .within))
+            ∙ ap (λ (x : List ℕ). part x a e) (sym q)
+            ∙ sym (first-before (part s a e) (words (drop e s)))
+            ∙ ap firstWord (sym (w .reads) ∙ r ∙ ap (λ (x : List ℕ). restWords (words x)) q);
+      }
+
+  module _ (a e : ℕ) (w : WordAt s 0 a e) where
+    pub no-words : a ≡ e → Found line a e
+    unfolding restWords
+    no-words z = let o = no-word s 0 a e w z in stands 0 a e w (o ∙ sym (ap restWords o))
+
+    module _ (z : a ≡ e → ⊥) (name : ℕ) (k : name ≡ place (part s a e) names) where
+      pub no-name : 11 < name → Found line a e
+      unfolding restWords
+      no-name b =
+          let o = one-word s 0 a e w z in
+          stands 0 a e w (o ∙ sym (pick-t _ _ _ (lt-ltb 11 (place (part s a e) names) (omega arith))) ∙ ap restWords (sym o))
+
+      pub after-name : name ≤ 11 → (at x y : ℕ) → words (drop at s) ≡ restNamed name (words (drop e s)) → WordAt s at x y → Found line x y
+      unfolding restWords
+      after-name b at x y h v =
+          stands at x y v
+          (h
+          ∙ ap (λ (i : ℕ). restNamed i (words (drop e s))) k
+          ∙ sym (pick-f _ _ _ (le-ltb 11 (place (part s a e) names) (omega arith)))
+          ∙ ap restWords (sym (one-word s 0 a e w z)))
