@@ -4,4 +4,4 @@ use Rattle.calls.specs.declared.input.Input.{Input}
 
 pub record Within (at : Input) : Type 0 where
   pub rises : at .start ≤ at .end
-  pub ends : at .end ≤ 65536
+  pub ends : at .end ≤ 131072

@@ -1,8 +1,12 @@
-// A line that can't be read: its number, and what was expected.
+// A line that can't be read, or a list: the line's number, what was expected, and what stands there.
 use super::output::ROOM;
 use super::output::named;
+use super::output::named_hex;
 use super::output::put;
 use lines::Expected;
+use lines::LONGEST;
+use lines::found;
+use text::Word;
 
 // The keys of calls, by their places in lines::option::KEYS.
 fn call_key(out: &mut [u8; ROOM], at: usize, key: u8) -> usize {
@@ -64,9 +68,114 @@ fn what(out: &mut [u8; ROOM], at: usize, e: Expected) -> usize {
     }
 }
 
-pub(crate) fn tell(out: &mut [u8; ROOM], at: usize, line: u64, e: Expected) -> usize {
-    let one = named(out, at, b"error line ", line);
+// What of a word is shown.
+const SHOWN: usize = 40;
+
+// An octet that doesn't print, or is the backslash, by its two hexadecimal digits.
+fn octet(out: &mut [u8; ROOM], at: usize, x: u8) -> usize {
+    match x {
+        92 => put(out, at, b"\\x5c"),
+        33..=126 => put(out, at, &[x]),
+        _ => named_hex(out, at, b"\\x", x as u64, 2),
+    }
+}
+
+fn octets(out: &mut [u8; ROOM], at: usize, word: &[u8]) -> usize {
+    let mut end = at;
+    let mut i = 0;
+    while i < word.len() {
+        end = octet(out, end, word[i]);
+        i += 1;
+    }
+    end
+}
+
+fn quoted(out: &mut [u8; ROOM], at: usize, word: &[u8]) -> usize {
+    let one = put(out, at, b"'");
+    if word.len() <= SHOWN {
+        let two = octets(out, one, word);
+        return put(out, two, b"'");
+    }
+    let two = octets(out, one, &word[0..SHOWN]);
+    put(out, two, b"'..")
+}
+
+// Editors put it before a text's first word, and show nothing there.
+fn is_byte_order_mark(word: &[u8]) -> bool {
+    if word.len() < 3 {
+        return false;
+    }
+    if word[0] != 0xef {
+        return false;
+    }
+    if word[1] != 0xbb {
+        return false;
+    }
+    word[2] == 0xbf
+}
+
+fn stands(out: &mut [u8; ROOM], at: usize, word: &[u8]) -> usize {
+    if word.len() == 0 {
+        return put(out, at, b"the end of the line");
+    }
+    if is_byte_order_mark(word) {
+        return put(out, at, b"a byte order mark");
+    }
+    quoted(out, at, word)
+}
+
+// Its name, of a call where there is no session.
+fn first_word(line: &[u8]) -> Word {
+    let comment = text::find(line, b'#');
+    text::word_at(&line[0..comment], 0)
+}
+
+fn word_of(line: &[u8], e: Expected) -> Word {
+    match e {
+        Expected::Open => first_word(line),
+        _ => found(line),
+    }
+}
+
+fn put_word(out: &mut [u8; ROOM], at: usize, line: &[u8], e: Expected) -> usize {
+    let word = word_of(line, e);
+    let start = word.start;
+    let end = word.end;
+    if start <= end && end <= line.len() {
+        return stands(out, at, &line[start..end]);
+    }
+    at
+}
+
+fn put_found(out: &mut [u8; ROOM], at: usize, line: &[u8], e: Expected, stretches: usize) -> usize {
+    match e {
+        Expected::ShorterLine => {
+            let end = named(out, at, b"more than ", LONGEST as u64);
+            put(out, end, b" octets")
+        }
+        Expected::FewerStretches => named(out, at, b"", stretches as u64),
+        _ => put_word(out, at, line, e),
+    }
+}
+
+pub(crate) fn tell(
+    out: &mut [u8; ROOM],
+    at: usize,
+    number: u64,
+    e: Expected,
+    line: &[u8],
+    stretches: usize,
+) -> usize {
+    let one = named(out, at, b"error line ", number);
     let two = put(out, one, b": expected ");
     let three = what(out, two, e);
-    put(out, three, b"\n")
+    let four = put(out, three, b", found ");
+    let five = put_found(out, four, line, e, stretches);
+    put(out, five, b"\n")
+}
+
+// The line of this number is not there whole: the list's input failed.
+pub(crate) fn unread(out: &mut [u8; ROOM], at: usize, number: u64) -> usize {
+    let end = named(out, at, b"error line ", number);
+    put(out, end, b": the list can't be read on\n")
 }

@@ -1,16 +1,25 @@
-// What the program writes, gathered in a buffer and written out where it is full.
+// What the program writes, gathered in a buffer and written out where it is full. A write that fails is told once, and nothing is
+// written after it.
 ghost use Prim.Native.Nat.{_+_, _≤_};
 ghost use lib.ListN.{length};
 use libc::STDOUT_FILENO;
 
 pub(crate) const ROOM: usize = 65536;
 
-// The first `at` octets are still to be written.
-pub(crate) fn flush(out: &[u8; ROOM], at: usize) {
+// In place of how many octets are still to be written: a write failed.
+pub(crate) const FAILED: usize = 65537;
+
+// Writes the first `at` octets; how many are still to be written then.
+pub(crate) fn flush(out: &[u8; ROOM], at: usize) -> usize {
     let all = &out[..];
-    if at <= ROOM {
-        io::write_all(STDOUT_FILENO, &all[0..at]);
+    if at > ROOM {
+        return FAILED;
     }
+    if io::write_all(STDOUT_FILENO, &all[0..at]) {
+        return 0;
+    }
+    os::fail(b"standard output");
+    FAILED
 }
 
 fn copy(out: &mut [u8], at: usize, s: &[u8])
@@ -32,7 +41,9 @@ pub(crate) fn put(out: &mut [u8; ROOM], at: usize, s: &[u8]) -> usize {
         copy(out, at, s);
         return at + s.len();
     }
-    flush(out, at);
+    if flush(out, at) > ROOM {
+        return FAILED;
+    }
     copy(out, 0, s);
     s.len()
 }
@@ -49,12 +60,22 @@ pub(crate) fn named(out: &mut [u8; ROOM], at: usize, name: &[u8], n: u64) -> usi
     number(out, end, n)
 }
 
-// The digest of eight digits.
-pub(crate) fn digest(out: &mut [u8; ROOM], at: usize, d: u32) -> usize {
+// So many digits in hexadecimal, and a word before them.
+pub(crate) fn named_hex(
+    out: &mut [u8; ROOM],
+    at: usize,
+    name: &[u8],
+    n: u64,
+    digits: usize,
+) -> usize {
     let mut text = [0u8; 16];
-    let k = io::hex(d as u64, 8, &mut text);
-    let end = put(out, at, b" digest ");
+    let k = io::hex(n, digits, &mut text);
+    let end = put(out, at, name);
     put(out, end, &text[..k])
+}
+
+pub(crate) fn digest(out: &mut [u8; ROOM], at: usize, d: u32) -> usize {
+    named_hex(out, at, b" digest ", d as u64, 8)
 }
 
 pub(crate) fn yes(out: &mut [u8; ROOM], at: usize, b: bool) -> usize {

@@ -2,8 +2,10 @@
 ghost use Prim.Native.Nat.{_-_, _≤_};
 ghost use Rattle.calls.specs.Input.{Within};
 use super::answer;
+use super::arguments::Flags;
 use super::error;
 use super::input::Input;
+use super::input::ROOM as INPUT;
 use super::input::fill;
 use super::input::nothing;
 use super::output::ROOM;
@@ -18,12 +20,14 @@ use super::stretches::TABLE;
 use account::session::Session;
 use account::settings::SettingsAnswer;
 use lines::Expected;
+use lines::LONGEST;
 use lines::Read;
 use lines::read_call;
 use lines::read_open;
 use replay::run::carry_on;
 use session::open::open;
 use session::readers::gap_stats;
+use session::readers::loss_total;
 use session::readers::waiting_samples;
 use std::num::wrapping_add_u64;
 
@@ -41,6 +45,9 @@ struct Desk {
     input: Input,
     // the file has no more lines, or one could not be read
     is_over: bool,
+    // 1 where one could not be read
+    status: u8,
+    flags: Flags,
 }
 
 // The session and the desk after a line.
@@ -50,13 +57,14 @@ struct Turn {
 }
 
 // A line that can't be read, or not be run: nothing after it is run.
-fn stopped(d: Desk, out: &mut [u8; ROOM], e: Expected) -> Desk
+fn stopped(d: Desk, out: &mut [u8; ROOM], e: Expected, line: &[u8]) -> Desk
     ensures { λ r. ⌜ Within (r .input) ⌝ }
 {
-    let end = error::tell(out, d.out, d.line, e);
+    let end = error::tell(out, d.out, d.line, e, line, d.account.stretches);
     let mut next = d;
     next.out = end;
     next.is_over = true;
+    next.status = 1;
     next.input = nothing();
     next
 }
@@ -72,7 +80,8 @@ fn ended(s: Session, d: Desk, table: &mut [u64; TABLE], out: &mut [u8; ROOM]) ->
     let waiting = waiting_samples(s) as u64;
     let health = gap_stats(s);
     let a = d.account;
-    let end = stretches::tell(out, d.out, table, a, waiting, health);
+    let loss = loss_total(s);
+    let end = stretches::tell(out, d.out, table, a, waiting, health, loss);
     let mut next = d;
     next.out = end;
     next.is_open = false;
@@ -90,6 +99,15 @@ fn refusal(a: SettingsAnswer) -> u64 {
         SettingsAnswer::CenterTooHigh => 5,
         SettingsAnswer::Port => 6,
     }
+}
+
+// Before an answer, where it is asked for.
+fn numbered(out: &mut [u8; ROOM], d: Desk) -> usize {
+    if !d.flags.numbered {
+        return d.out;
+    }
+    let end = named(out, d.out, b"", d.line);
+    put(out, end, b": ")
 }
 
 fn put_opened(out: &mut [u8; ROOM], at: usize, refused: u64) -> usize {
@@ -127,7 +145,7 @@ fn open_line(
     let asked = read_open(line);
     let read = asked.read;
     if let Read::Unread(e) = read {
-        let desk = stopped(d, out, e);
+        let desk = stopped(d, out, e, line);
         return Turn { session: s, desk };
     }
     let before = ended(s, d, table, out);
@@ -135,7 +153,8 @@ fn open_line(
     let r = open(settings, asked.at);
     let answer = r.answer;
     let refused = refusal(answer);
-    let end = put_opened(out, before.out, refused);
+    let start = numbered(out, before);
+    let end = put_opened(out, start, refused);
     let desk = opened(before, end, refused == 0, settings.radio_ip, settings.port);
     let session = r.session;
     Turn { session, desk }
@@ -147,9 +166,28 @@ fn number_of(octets: &[u8; 2048]) -> u32 {
     octets::get_u32(all, 0)
 }
 
+// The answer's line, and the gap's where it is asked for.
+fn put_answer(
+    out: &mut [u8; ROOM],
+    d: Desk,
+    kind: u64,
+    packets: &[u8; 8192],
+    places: &[f32; 1024],
+    answers: &[u64; 8],
+) -> usize {
+    let start = numbered(out, d);
+    let end = answer::tell(out, start, kind, answers, packets, places);
+    if d.flags.gaps {
+        let before = d.account;
+        return stretches::tell_gap(out, end, before, answers[0], answers[1]);
+    }
+    end
+}
+
 // What was answered goes to the output and to the account.
 fn noted(
     d: Desk,
+    line: &[u8],
     call: &[u64; 8],
     octets: &[u8; 2048],
     packets: &[u8; 8192],
@@ -161,7 +199,7 @@ fn noted(
     requires { ⌜ Within (d .input) ⌝ }
     ensures { λ r. ⌜ Within (r .input) ⌝ }
 {
-    let end = answer::tell(out, d.out, call[0], answers, packets, places);
+    let end = put_answer(out, d, call[0], packets, places, answers);
     let before = d.account;
     let a = stretches::note(
         table,
@@ -175,7 +213,7 @@ fn noted(
     next.account = a;
     next.out = end;
     if a.stretches > STRETCHES {
-        return stopped(next, out, Expected::FewerStretches);
+        return stopped(next, out, Expected::FewerStretches, line);
     }
     next
 }
@@ -183,6 +221,7 @@ fn noted(
 fn call_line(
     s: Session,
     d: Desk,
+    line: &[u8],
     samples: &mut [f32; 476],
     call: &[u64; 8],
     octets: &[u8; 2048],
@@ -197,23 +236,24 @@ fn call_line(
     ensures { λ r. ⌜ Within (r .desk .input) ⌝ }
 {
     if !d.is_open {
-        let desk = stopped(d, out, Expected::Open);
+        let desk = stopped(d, out, Expected::Open, line);
         return Turn { session: s, desk };
     }
     let r = carry_on(s, samples, call, octets, numbers, packets, places, answers);
     let session = r.session;
-    let desk = noted(d, call, octets, packets, places, answers, table, out);
+    let desk = noted(d, line, call, octets, packets, places, answers, table, out);
     Turn { session, desk }
 }
 
-fn state_line(s: Session, d: Desk, out: &mut [u8; ROOM]) -> Desk
+fn state_line(s: Session, d: Desk, line: &[u8], out: &mut [u8; ROOM]) -> Desk
     requires { ⌜ Within (d .input) ⌝ }
     ensures { λ r. ⌜ Within (r .input) ⌝ }
 {
     if !d.is_open {
-        return stopped(d, out, Expected::Open);
+        return stopped(d, out, Expected::Open, line);
     }
-    let end = state::tell(out, d.out, s);
+    let start = numbered(out, d);
+    let end = state::tell(out, start, s);
     let mut next = d;
     next.out = end;
     next
@@ -223,7 +263,7 @@ fn state_line(s: Session, d: Desk, out: &mut [u8; ROOM]) -> Desk
 fn one_line(
     s: Session,
     d: Desk,
-    text: &[u8; 65536],
+    text: &[u8; INPUT],
     start: usize,
     end: usize,
     samples: &mut [f32; 476],
@@ -236,7 +276,7 @@ fn one_line(
     table: &mut [u64; TABLE],
     out: &mut [u8; ROOM],
 ) -> Turn
-    requires { ⌜ Within (d .input) × (start ≤ end) × (end ≤ 65536) ⌝ }
+    requires { ⌜ Within (d .input) × (start ≤ end) × (end ≤ 131072) ⌝ }
     ensures { λ r. ⌜ Within (r .desk .input) ⌝ }
 {
     let all = &text[..];
@@ -251,6 +291,7 @@ fn one_line(
         Read::Call => call_line(
             s,
             d,
+            line,
             samples,
             call,
             octets,
@@ -263,11 +304,11 @@ fn one_line(
         ),
         Read::State => Turn {
             session: s,
-            desk: state_line(s, d, out),
+            desk: state_line(s, d, line, out),
         },
         Read::Unread(e) => Turn {
             session: s,
-            desk: stopped(d, out, e),
+            desk: stopped(d, out, e, line),
         },
     }
 }
@@ -278,8 +319,8 @@ struct Span {
     has_newline: bool,
 }
 
-fn next_span(text: &[u8; 65536], start: usize, end: usize) -> Span
-    requires { ⌜ (start ≤ end) × (end ≤ 65536) ⌝ }
+fn next_span(text: &[u8; INPUT], start: usize, end: usize) -> Span
+    requires { ⌜ (start ≤ end) × (end ≤ 131072) ⌝ }
     ensures { λ r. ⌜ r .length ≤ end - start ⌝ }
 {
     let all = &text[..];
@@ -305,11 +346,11 @@ fn past(at: Input, n: usize, has_newline: bool) -> Input
     next
 }
 
-// Whether the file has to be read on before the next line is whole.
+// Whether the file has to be read on before the next line is whole, or known to be too long.
 fn is_cut(at: Input, s: Span) -> bool
     requires { ⌜ Within at ⌝ }
 {
-    !s.has_newline && !at.over && at.end - at.start < ROOM
+    !s.has_newline && !at.over && at.end - at.start <= LONGEST
 }
 
 // Behind a line, which is counted.
@@ -333,12 +374,27 @@ fn finished(s: Session, d: Desk, table: &mut [u64; TABLE], out: &mut [u8; ROOM])
     Turn { session: s, desk }
 }
 
+// A read may wait: what is answered is written first, so that whoever writes the list has its answers.
+fn read_on(fd: i32, d: Desk, text: &mut [u8; INPUT], out: &[u8; ROOM]) -> Desk
+    requires { ⌜ Within (d .input) ⌝ }
+    ensures { λ r. ⌜ Within (r .input) ⌝ }
+{
+    let mut next = d;
+    next.out = flush(out, d.out);
+    if next.out > ROOM {
+        return next;
+    }
+    let at = d.input;
+    next.input = fill(fd, text, at);
+    next
+}
+
 // The next line, or the file is read on.
 fn step(
     fd: i32,
     s: Session,
     d: Desk,
-    text: &mut [u8; 65536],
+    text: &mut [u8; INPUT],
     samples: &mut [f32; 476],
     call: &mut [u64; 8],
     octets: &mut [u8; 2048],
@@ -356,8 +412,7 @@ fn step(
     let start = at.start;
     let line = next_span(text, start, at.end);
     if is_cut(at, line) {
-        let mut desk = d;
-        desk.input = fill(fd, text, at);
+        let desk = read_on(fd, d, text, out);
         return Turn { session: s, desk };
     }
     if start == at.end {
@@ -383,7 +438,7 @@ fn step(
     )
 }
 
-fn empty_desk() -> Desk
+fn empty_desk(flags: Flags) -> Desk
     ensures { λ r. ⌜ Within (r .input) ⌝ }
 {
     let account = stretches::none();
@@ -397,6 +452,8 @@ fn empty_desk() -> Desk
         out: 0,
         input,
         is_over: false,
+        status: 0,
+        flags,
     }
 }
 
@@ -408,9 +465,29 @@ fn no_session() -> Session {
     r.session
 }
 
-// A proved loop has to end, and nothing says that a file does: it counts its turns down, from a number that no run uses up.
-pub(crate) fn run(fd: i32) {
-    let mut text = [0u8; 65536];
+// Whether the list goes on.
+fn goes_on(d: Desk) -> bool {
+    !d.is_over && !d.input.failed && d.out <= ROOM
+}
+
+// What is still to be written goes out. The status: 2 where input or output failed, else the desk's.
+fn end(d: Desk, name: &[u8], out: &mut [u8; ROOM]) -> u8 {
+    if d.input.failed {
+        os::fail(name);
+        let end = error::unread(out, d.out, wrapping_add_u64(d.line, 1));
+        flush(out, end);
+        return 2;
+    }
+    if flush(out, d.out) > ROOM {
+        return 2;
+    }
+    d.status
+}
+
+// Runs the list that is read from fd, whose name is told where it can't be read. A proved loop has to end, and nothing says that a
+// file does: it counts its turns down, from a number that no run uses up.
+pub(crate) fn run(fd: i32, name: &[u8], flags: Flags) -> u8 {
+    let mut text = [0u8; INPUT];
     let mut samples = [0.0f32; 476];
     let mut call = [0u64; 8];
     let mut octets = [0u8; 2048];
@@ -421,9 +498,9 @@ pub(crate) fn run(fd: i32) {
     let mut table = [0u64; TABLE];
     let mut out = [0u8; ROOM];
     let mut s = no_session();
-    let mut d = empty_desk();
+    let mut d = empty_desk(flags);
     let mut turns = u64::MAX;
-    while turns > 0 && !d.is_over {
+    while turns > 0 && goes_on(d) {
         let t = step(
             fd,
             s,
@@ -443,5 +520,13 @@ pub(crate) fn run(fd: i32) {
         d = t.desk;
         turns -= 1;
     }
-    flush(&out, d.out);
+    end(d, name, &mut out)
+}
+
+// A list that there is no file of: nothing of it is run.
+pub(crate) fn no_list() -> u8 {
+    let mut out = [0u8; ROOM];
+    let end = error::unread(&mut out, 0, 1);
+    flush(&out, end);
+    2
 }

@@ -14,8 +14,8 @@ use tally::plus;
 // The most stretches of a session.
 pub(crate) const STRETCHES: usize = 4096;
 
-// The numbers of as many stretches, six each.
-pub(crate) const TABLE: usize = 24576;
+// The numbers of as many stretches, seven each.
+pub(crate) const TABLE: usize = 28672;
 
 pub(crate) struct Account {
     // the last of them is not in the table yet
@@ -27,6 +27,7 @@ pub(crate) struct Account {
 pub(crate) fn none() -> Account {
     let last = Stretch {
         at: 0,
+        last: 0,
         first: 0,
         restart: 0,
         highest: 0,
@@ -43,24 +44,26 @@ pub(crate) fn none() -> Account {
 fn store(table: &mut [u64; TABLE], i: usize, s: Stretch)
     requires { ⌜ i < 4096 ⌝ }
 {
-    table[6 * i] = s.at;
-    table[6 * i + 1] = s.first;
-    table[6 * i + 2] = s.restart;
-    table[6 * i + 3] = s.highest;
-    table[6 * i + 4] = s.samples;
-    table[6 * i + 5] = s.missing;
+    table[7 * i] = s.at;
+    table[7 * i + 1] = s.last;
+    table[7 * i + 2] = s.first;
+    table[7 * i + 3] = s.restart;
+    table[7 * i + 4] = s.highest;
+    table[7 * i + 5] = s.samples;
+    table[7 * i + 6] = s.missing;
 }
 
 fn stretch_at(table: &[u64; TABLE], i: usize) -> Stretch
     requires { ⌜ i < 4096 ⌝ }
 {
     Stretch {
-        at: table[6 * i],
-        first: table[6 * i + 1],
-        restart: table[6 * i + 2],
-        highest: table[6 * i + 3],
-        samples: table[6 * i + 4],
-        missing: table[6 * i + 5],
+        at: table[7 * i],
+        last: table[7 * i + 1],
+        first: table[7 * i + 2],
+        restart: table[7 * i + 3],
+        highest: table[7 * i + 4],
+        samples: table[7 * i + 5],
+        missing: table[7 * i + 6],
     }
 }
 
@@ -107,7 +110,7 @@ fn accepted(
     let last = a.last;
     Account {
         stretches: a.stretches,
-        last: more(last, number, missing),
+        last: more(last, reading, number, missing),
         handed: a.handed,
     }
 }
@@ -139,12 +142,13 @@ pub(crate) fn note(
 fn put_stretch(out: &mut [u8; ROOM], at: usize, k: u64, s: Stretch) -> usize {
     let one = named(out, at, b"stretch ", k);
     let two = named(out, one, b" at ", s.at);
-    let three = named(out, two, b" first ", s.first);
-    let four = named(out, three, b" highest ", s.highest);
-    let five = named(out, four, b" samples ", s.samples);
-    let six = named(out, five, b" missing ", s.missing);
-    let seven = named(out, six, b" restart ", s.restart);
-    put(out, seven, b"\n")
+    let three = named(out, two, b" last ", s.last);
+    let four = named(out, three, b" first ", s.first);
+    let five = named(out, four, b" highest ", s.highest);
+    let six = named(out, five, b" samples ", s.samples);
+    let seven = named(out, six, b" missing ", s.missing);
+    let eight = named(out, seven, b" restart ", s.restart);
+    put(out, eight, b"\n")
 }
 
 fn total(table: &[u64; TABLE], n: usize) -> Sums
@@ -185,11 +189,31 @@ fn put_total(out: &mut [u8; ROOM], at: usize, a: Account, t: Sums, waiting: u64)
     put(out, six, b"\n")
 }
 
-fn put_counters(out: &mut [u8; ROOM], at: usize, h: InputHealthCounters) -> usize {
+fn put_counters(out: &mut [u8; ROOM], at: usize, h: InputHealthCounters, loss: u64) -> usize {
     let one = named(out, at, b"counters dropped ", h.dropped_packets);
     let two = named(out, one, b" gaps ", h.gaps_detected);
     let three = named(out, two, b" malformed ", h.malformed_packets);
-    put(out, three, b"\n")
+    let four = named(out, three, b" loss ", loss);
+    put(out, four, b"\n")
+}
+
+// The gap that an arrival was told, from the account before it: the codes from 19 on.
+pub(crate) fn tell_gap(
+    out: &mut [u8; ROOM],
+    at: usize,
+    a: Account,
+    code: u64,
+    missing: u64,
+) -> usize {
+    if code < 19 {
+        return at;
+    }
+    let last = a.last;
+    let one = named(out, at, b"gap stretch ", a.stretches as u64);
+    let two = named(out, one, b" after ", last.highest);
+    let three = named(out, two, b" datagrams ", code - 19);
+    let four = named(out, three, b" samples ", missing);
+    put(out, four, b"\n")
 }
 
 // The whole account of a session that ends with so many samples waiting.
@@ -200,6 +224,7 @@ pub(crate) fn tell(
     a: Account,
     waiting: u64,
     h: InputHealthCounters,
+    loss: u64,
 ) -> usize {
     keep(table, a);
     if a.stretches > STRETCHES {
@@ -207,5 +232,5 @@ pub(crate) fn tell(
     }
     let one = put_stretches(out, at, table, a.stretches);
     let two = put_total(out, one, a, total(table, a.stretches), waiting);
-    put_counters(out, two, h)
+    put_counters(out, two, h, loss)
 }

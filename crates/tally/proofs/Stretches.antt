@@ -27,15 +27,15 @@ even-first at number restart = record { rises = omega arith; adds = omega arith 
 -- told in order where k is 0, a gap of k otherwise: nothing passes 2^64 in a list of fewer than 2^31 calls
 module _ (s : Stretch) (k number : ℕ) (l : k < 0xffff_ffff) (n : number ≡ (s .highest + (k + 1)) % 0x1_0000_0000)
     (hh : s .highest + (k + 1) < 0x1_0000_0000_0000_0000) where
-  pub goes-on : (missing : ℕ) → (moreOf s number missing) .highest ≡ s .highest + (k + 1)
+  pub goes-on : (reading missing : ℕ) → (moreOf s reading number missing) .highest ≡ s .highest + (k + 1)
   unfolding moreOf
-  goes-on missing =
+  goes-on reading missing =
       ap (λ (x : ℕ). sum (s .highest) (above x (s .highest))) n ∙ ap (sum (s .highest)) (above-is (s .highest) k l) ∙ sum-is (s .highest) (k + 1) hh
 
-  pub even-more : s .samples + 238 < 0x1_0000_0000_0000_0000 → s .missing + 238 * k < 0x1_0000_0000_0000_0000 → Even s → Even (moreOf s number (238 * k))
+  pub even-more : s .samples + 238 < 0x1_0000_0000_0000_0000 → s .missing + 238 * k < 0x1_0000_0000_0000_0000 → Even s → (reading : ℕ) → Even (moreOf s reading number (238 * k))
   unfolding moreOf
-  even-more hs hm e =
+  even-more hs hm e reading =
       let r =
-      adds-up (s .first) (s .highest) (s .samples) (s .missing) k _ _ _ (e .rises) (e .adds) (goes-on (238 * k)) (sum-is (s .samples) 238 hs)
+      adds-up (s .first) (s .highest) (s .samples) (s .missing) k _ _ _ (e .rises) (e .adds) (goes-on reading (238 * k)) (sum-is (s .samples) 238 hs)
       (sum-is (s .missing) (238 * k) hm) in
       record { rises = r .0; adds = r .1 }

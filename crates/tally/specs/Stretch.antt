@@ -14,13 +14,14 @@ above number highest = (number + 0x1_0000_0000 - highest % 0x1_0000_0000) % 0x1_
 
 -- the first arrival: its missing is the restart's
 unfoldable pub firstOf : ℕ → ℕ → ℕ → Stretch
-firstOf at number restart = record { at = at; first = number; restart = restart; highest = number; samples = 238; missing = 0 }
+firstOf at number restart = record { at = at; last = at; first = number; restart = restart; highest = number; samples = 238; missing = 0 }
 
--- an accepted arrival more
-unfoldable pub moreOf : Stretch → ℕ → ℕ → Stretch
-moreOf s number missing =
+-- an accepted arrival more, by its reading, its number and the missing told with it
+unfoldable pub moreOf : Stretch → ℕ → ℕ → ℕ → Stretch
+moreOf s reading number missing =
     record {
       at = s .at;
+      last = reading;
       first = s .first;
       restart = s .restart;
       highest = sum (s .highest) (above number (s .highest));

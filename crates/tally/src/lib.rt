@@ -9,8 +9,10 @@ const SAMPLES_PER_DATAGRAM: u64 = 238;
 
 // It begins with the session's first arrival, or with one told Restart.
 pub struct Stretch {
-    // the first arrival's reading and number
+    // the first arrival's reading, and that of the last accepted one
     pub at: u64,
+    pub last: u64,
+    // the first arrival's number
     pub first: u64,
     // the missing that was told with it
     pub restart: u64,
@@ -27,6 +29,7 @@ pub fn first(at: u64, number: u32, restart: u64) -> Stretch
 {
     Stretch {
         at,
+        last: at,
         first: number as u64,
         restart,
         highest: number as u64,
@@ -36,12 +39,13 @@ pub fn first(at: u64, number: u32, restart: u64) -> Stretch
 }
 
 // An accepted arrival more, which is told in order or a gap.
-pub fn more(s: Stretch, number: u32, missing: u64) -> Stretch
-    ensures { λ r. ⌜ r ≡ moreOf s number missing ⌝ }
+pub fn more(s: Stretch, reading: u64, number: u32, missing: u64) -> Stretch
+    ensures { λ r. ⌜ r ≡ moreOf s reading number missing ⌝ }
 {
     let step = wrapping_sub_u32(number, (s.highest % 4294967296) as u32);
     Stretch {
         at: s.at,
+        last: reading,
         first: s.first,
         restart: s.restart,
         highest: wrapping_add_u64(s.highest, step as u64),

@@ -6,10 +6,10 @@ use Rattle.calls.proofs.run.run.Statement.{statement}
 use Rattle.calls.proofs.run.run.Tie as tie
 
 abbrev Inv-loop : tie.InvT-loop
-Inv-loop fd text₀ samples₀ call₀ octets₀ numbers₀ packets₀ places₀ answers₀ table₀ out₀ s₀ d₀ turns₀ text samples call octets numbers packets places answers table out s d turns = Within (d .input)
+Inv-loop fd name text₀ samples₀ call₀ octets₀ numbers₀ packets₀ places₀ answers₀ table₀ out₀ s₀ d₀ turns₀ text samples call octets numbers packets places answers table out s d turns = Within (d .input)
 
 abbrev μ-loop : tie.MeasureT-loop
-μ-loop fd text₀ samples₀ call₀ octets₀ numbers₀ packets₀ places₀ answers₀ table₀ out₀ s₀ d₀ turns₀ text samples call octets numbers packets places answers table out s d turns = turns
+μ-loop fd name text₀ samples₀ call₀ octets₀ numbers₀ packets₀ places₀ answers₀ table₀ out₀ s₀ d₀ turns₀ text samples call octets numbers packets places answers table out s d turns = turns
 
 no-session-requires : tie.Need-no-session-requires Inv-loop μ-loop
 no-session-requires c κs = search needs
@@ -19,6 +19,9 @@ empty-desk-requires c κs = search needs
 
 loop-holds : tie.Need-loop-holds Inv-loop μ-loop
 loop-holds c = search needs
+
+goes-on-requires : tie.Need-goes-on-requires Inv-loop μ-loop
+goes-on-requires c κs = search needs
 
 step-requires : tie.Need-step-requires Inv-loop μ-loop
 step-requires c κs = search needs
@@ -32,8 +35,8 @@ loop-less c = omega (arith, c .before .before .before .before .before .before .b
 loop-again : tie.Need-loop-again Inv-loop μ-loop
 loop-again c = search needs
 
-flush-requires : tie.Need-flush-requires Inv-loop μ-loop
-flush-requires c κs = search needs
+end-requires : tie.Need-end-requires Inv-loop μ-loop
+end-requires c κs = search needs
 
 returns : tie.Need-returns Inv-loop μ-loop
 returns c = search needs
@@ -47,9 +50,10 @@ run-spec =
     no-session-requires
     empty-desk-requires
     loop-holds
+    goes-on-requires
     step-requires
     sub-turns
     loop-less
     loop-again
-    flush-requires
+    end-requires
     returns)
