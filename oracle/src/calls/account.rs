@@ -10,6 +10,8 @@ struct Stretch {
     at: u64,
     first: u32,
     restart: u64,
+    /// The reading of the last accepted arrival.
+    last: u64,
     /// The highest number, counted on from the first past 2^32.
     highest: u64,
     samples: u64,
@@ -39,11 +41,13 @@ impl Account {
                 s.highest += number.wrapping_sub(s.highest as u32) as u64;
                 s.samples += samples;
                 s.missing += missing;
+                s.last = a.at;
             }
             _ => self.stretches.push(Stretch {
                 at: a.at,
                 first: number,
                 restart: missing,
+                last: a.at,
                 highest: number as u64,
                 samples,
                 missing: 0,
@@ -81,20 +85,20 @@ impl Account {
     }
 }
 
+impl fmt::Display for Stretch {
+    fn fmt(&self, f: &mut fmt::Formatter<'_>) -> fmt::Result {
+        write!(
+            f,
+            "at {} last {} first {} highest {} samples {} missing {} restart {}",
+            self.at, self.last, self.first, self.highest, self.samples, self.missing, self.restart
+        )
+    }
+}
+
 impl fmt::Display for Account {
     fn fmt(&self, f: &mut fmt::Formatter<'_>) -> fmt::Result {
         for (i, s) in self.stretches.iter().enumerate() {
-            writeln!(
-                f,
-                "stretch {} at {} first {} highest {} samples {} missing {} restart {}",
-                i + 1,
-                s.at,
-                s.first,
-                s.highest,
-                s.samples,
-                s.missing,
-                s.restart
-            )?;
+            writeln!(f, "stretch {} {s}", i + 1)?;
         }
         let sum = |of: fn(&Stretch) -> u64| self.stretches.iter().map(of).sum::<u64>();
         writeln!(
@@ -108,9 +112,10 @@ impl fmt::Display for Account {
             self.waiting
         )?;
         let [dropped, gaps, malformed] = self.counts;
+        let loss = dropped.wrapping_mul(238);
         writeln!(
             f,
-            "counters dropped {dropped} gaps {gaps} malformed {malformed}"
+            "counters dropped {dropped} gaps {gaps} malformed {malformed} loss {loss}"
         )
     }
 }
