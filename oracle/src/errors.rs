@@ -1,6 +1,17 @@
 //! Lists that go wrong: lines that can't be read (lists/errors.txt), and what the Rust can't be asked (no_counterpart.txt).
-use crate::calls::parse;
+mod limits;
+mod octets;
+
+use crate::calls::flags;
 use crate::lists::answered;
+pub use limits::too_many_waiting;
+
+/// A list, and how it is told: all of it, or its end.
+struct Written {
+    name: String,
+    list: String,
+    told: String,
+}
 
 /// A file's entries: what is tried, and how it is told.
 fn entries(text: &str) -> Vec<(&str, &str)> {
@@ -12,85 +23,84 @@ fn of_line(line: &str) -> String {
     format!("open\n{line}\nbegin 0\n")
 }
 
+/// It is told after the answer to the first line, with nothing behind.
+fn told_of_line(expected: &str) -> String {
+    format!("opened\nerror line 2: expected {expected}\n")
+}
+
 fn of_lines(lines: &str) -> String {
     lines.replace("; ", "\n")
 }
 
 fn told(list: &str) -> String {
-    answered(list).0
+    answered(list, flags::NONE).0
 }
 
-fn check(what: &str, text: &str, is_told: fn(&str, &str) -> bool) -> bool {
-    let entries = entries(text);
-    let differ: Vec<_> = entries
-        .iter()
-        .filter(|(list, end)| !is_told(list, end))
-        .collect();
-    for (list, _) in &differ {
-        println!("not told: {list}");
+fn check(what: &str, written: &[Written], is_told: fn(&str, &str) -> bool) -> bool {
+    let differs = |w: &&Written| !is_told(&told(&w.list), &w.told);
+    let differ: Vec<_> = written.iter().filter(differs).collect();
+    for w in &differ {
+        println!("not told: {}", w.name);
     }
     println!(
         "{} {what}, {} not told as they should be",
-        entries.len(),
+        written.len(),
         differ.len()
     );
-    differ.is_empty() && !entries.is_empty()
+    differ.is_empty() && !written.is_empty()
 }
 
-/// Each is told after the answer to the first line, with nothing behind.
+fn of_errors(text: &str) -> Vec<Written> {
+    let written = |(line, expected): (&str, &str)| Written {
+        name: line.into(),
+        list: of_line(line),
+        told: told_of_line(expected),
+    };
+    entries(text).into_iter().map(written).collect()
+}
+
+fn of_no_counterpart(text: &str) -> Vec<Written> {
+    let written = |(list, end): (&str, &str)| Written {
+        name: list.into(),
+        list: of_lines(list),
+        told: format!("error line {end}\n"),
+    };
+    entries(text).into_iter().map(written).collect()
+}
+
 pub fn lines(text: &str) -> bool {
-    check("lines that can't be read", text, |line, expected| {
-        told(&of_line(line)) == format!("opened\nerror line 2: expected {expected}\n")
-    })
+    let what = "lines that can't be read";
+    check(what, &of_errors(text), |told, all| told == all)
 }
 
 /// Each is a list, whose answers end so.
 pub fn lists(text: &str) -> bool {
-    check("lists that the Rust can't be asked", text, |list, end| {
-        told(&of_lines(list)).lines().last() == Some(&format!("error line {end}"))
+    let what = "lists that the Rust can't be asked";
+    check(what, &of_no_counterpart(text), |told, last| {
+        told.split_inclusive('\n').next_back() == Some(last)
     })
 }
 
-/// A session of so many stretches, and a comment so long that its line has so many octets.
-fn of(stretches: usize, octets: usize) -> String {
-    let read = |n: usize| format!("begin 0\npass 0\niq 0 0 {}\ntake 0 476\n", n * 100_000);
-    let reads: String = (1..=stretches).map(read).collect();
-    format!("open\n{reads}#{}\nstate\n", "-".repeat(octets - 1))
+/// What a text file can't show.
+pub fn octets() -> bool {
+    let what = "lists of octets that don't print, and of long words";
+    check(what, &octets::written(), |told, all| told == all)
 }
 
-/// On either side of each limit: neither passed, the line's, the stretches'.
-fn at_limits() -> [String; 3] {
-    let (most, line) = (parse::STRETCHES, parse::LINE);
-    [of(most, line), of(most, line + 1), of(most + 1, line)]
-}
-
-/// What is too long.
+/// What is as long as it may be, and what is too long.
 pub fn limits() -> bool {
-    let most = parse::STRETCHES;
-    let [fine, wide, many] =
-        at_limits().map(|list| told(&list).lines().last().unwrap().to_string());
-    let told = fine.starts_with("counters")
-        && wide == format!("error line {}: expected a shorter line", 4 * most + 2)
-        && many == format!("error line {}: expected fewer stretches", 4 * most + 4);
-    println!(
-        "lists at their limits, {}",
-        if told {
-            "told as they should be"
-        } else {
-            "not told so"
-        }
-    );
-    told
+    let what = "lists at their limits";
+    check(what, &limits::written(), |told, end| told.ends_with(end))
 }
 
-/// Every list above, by what it tries: of the two files' entries, and at the limits.
+/// Every list above, by what it tries.
 pub fn all(lines: &str, lists: &str) -> Vec<(String, String)> {
-    let lines = entries(lines)
-        .into_iter()
-        .map(|(line, _)| (line.to_string(), of_line(line)));
-    let lists = entries(lists)
-        .into_iter()
-        .map(|(list, _)| (list.to_string(), of_lines(list)));
-    let limits = at_limits().map(|list| ("a list at the limits".to_string(), list));
-    lines.chain(lists).chain(limits).collect()
+    let all = [
+        of_errors(lines),
+        of_no_counterpart(lists),
+        octets::written(),
+        limits::written(),
+    ];
+    let name = |w: Written| (w.name, w.list);
+    all.into_iter().flatten().map(name).collect()
 }

@@ -1,5 +1,7 @@
 //! The lists of a folder, run through the Rust: each NAME.calls has its answers beside it, in NAME.answers.
+use crate::calls::flags::{self, unnumbered, Flags};
 use crate::calls::list::{self, Ran};
+use crate::calls::parse;
 use crate::generate;
 use std::path::{Path, PathBuf};
 
@@ -11,15 +13,16 @@ pub fn lists(folder: &str) -> Vec<PathBuf> {
     paths
 }
 
-pub fn answered(list: &str) -> (String, Ran) {
+pub fn answered(list: &str, flags: Flags) -> (String, Ran) {
     let mut answers = vec![];
-    let ran = list::run(list, &mut answers);
+    let ran = list::run(list, flags, &mut answers);
     (String::from_utf8(answers).unwrap(), ran)
 }
 
-/// The first line in which the two differ, from 1.
+/// The first line in which the two differ, from 1: its end counts as well.
 pub fn difference(expected: &str, came: &str) -> Option<usize> {
-    let (mut a, mut b) = (expected.lines(), came.lines());
+    let lines = |text| str::split_inclusive(text, '\n');
+    let (mut a, mut b) = (lines(expected), lines(came));
     (1..).find_map(|line| match (a.next(), b.next()) {
         (None, None) => Some(None),
         (x, y) if x != y => Some(Some(line)),
@@ -45,16 +48,43 @@ pub fn write(folder: &str) {
     for path in lists(folder) {
         std::fs::write(
             path.with_extension("answers"),
-            answered(&crate::text(&path)).0,
+            answered(&crate::text(&path), flags::NONE).0,
         )
         .unwrap();
     }
 }
 
+const GAP: &str = "gap stretch ";
+
+/// The comments of a list that are gaps' lines.
+fn gaps_beside(list: &str) -> Vec<&str> {
+    let comments = list.lines().filter_map(|l| l.split_once("# "));
+    let texts = comments.map(|(_, text)| text);
+    texts.filter(|text| text.starts_with(GAP)).collect()
+}
+
+/// With all flags a list is answered as with none, each answer has the number of its call's line, and the gaps are those that
+/// stand beside, where any do.
+fn is_same_with_flags(list: &str, answers: &str) -> bool {
+    let flagged = answered(list, flags::BOTH).0;
+    let is_gap = |line: &&str| line.starts_with(GAP);
+    let gaps: Vec<&str> = flagged.lines().filter(is_gap).collect();
+    let others = flagged.lines().filter(|l| !is_gap(l)).map(unnumbered);
+    let (numbers, texts): (Vec<_>, Vec<_>) = others.unzip();
+    let is_call = |line: &str| matches!(parse::line(line), Ok(Some(_)));
+    let calls = list.lines().zip(1..).filter(|(l, _)| is_call(l));
+    let told = answers.lines().filter(|l| l.starts_with("gap ")).count();
+    let beside = gaps_beside(list);
+    texts.iter().eq(&answers.lines().collect::<Vec<_>>())
+        && numbers.into_iter().flatten().eq(calls.map(|(_, n)| n))
+        && gaps.len() == told
+        && (beside.is_empty() || beside == gaps)
+}
+
 /// What is wrong with a list, if anything is, and how many calls were answered.
 fn judged(path: &Path) -> (Option<String>, usize) {
     let list = crate::text(path);
-    let (came, ran) = answered(&list);
+    let (came, ran) = answered(&list, flags::NONE);
     let expected = crate::text(path.with_extension("answers"));
     let wrong = match difference(&expected, &came) {
         Some(line) => {
@@ -63,12 +93,13 @@ fn judged(path: &Path) -> (Option<String>, usize) {
         }
         None if ran.uneven > 0 => Some("the account doesn't add up".into()),
         None if !is_as_made(&list) => Some("not what its seed gives".into()),
+        None if !is_same_with_flags(&list, &came) => Some("other answers with flags".into()),
         None => None,
     };
     (wrong, ran.calls)
 }
 
-/// Whether every list is answered as its file has it, with accounts that add up as demand 3 says.
+/// Whether every list is answered as its file has it, with accounts that add up.
 pub fn check(folder: &str) -> bool {
     let (mut calls, mut differ) = (0, 0);
     let paths = lists(folder);

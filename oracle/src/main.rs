@@ -7,6 +7,7 @@ mod errors;
 mod generate;
 mod lists;
 mod local_bind;
+mod octets;
 mod random;
 mod script;
 mod socket;
@@ -17,19 +18,21 @@ include!(concat!(env!("OUT_DIR"), "/manta.rs"));
 
 const USAGE: &str = "oracle/run check FOLDER      every test, of the repository in FOLDER
 oracle/run cases FILE        a text of cases, judged by the Rust
-oracle/run calls FILE        a list of calls, answered by the Rust (docs/CALLS.md)
+oracle/run calls [--gaps] [--numbered] FILE
+                             a list of calls, answered by the Rust (docs/CALLS.md)
 oracle/run lists FOLDER      the lists in FOLDER, against the answers beside them
 oracle/run write FOLDER      the answers of the lists in FOLDER, anew
 oracle/run generate SEED CALLS    a random list of at least so many calls
 oracle/run vectors           cases whose expected values are the Rust's
 oracle/run compare PROGRAM FOLDER SEED CALLS
                              the lists of the repository in FOLDER and random ones of at least so many calls, answered by
-                             PROGRAM (its argument names the list) and by the Rust";
+                             PROGRAM (its last argument names the list) and by the Rust";
 
+/// With one char an octet.
 fn text(path: impl AsRef<std::path::Path>) -> String {
     let path = path.as_ref();
     let octets = std::fs::read(path).unwrap_or_else(|e| panic!("{}: {e}", path.display()));
-    String::from_utf8_lossy(&octets).into_owned()
+    octets::text(&octets)
 }
 
 /// Runs all, also where one fails.
@@ -38,14 +41,23 @@ fn check(top: &str) -> bool {
     let errors = errors::lines(&text(format!("{top}/lists/errors.txt")));
     let outside = errors::lists(&text(format!("{top}/oracle/no_counterpart.txt")));
     let lists = lists::check(&format!("{top}/lists"));
+    let octets = errors::octets();
     let limits = errors::limits();
     let random = generate::check();
-    cases && errors && outside && lists && limits && random
+    cases && errors && outside && lists && octets && limits && random
 }
 
-fn calls(file: &str) -> bool {
+fn usage() -> bool {
+    eprintln!("{USAGE}");
+    false
+}
+
+fn calls(flags: &[&str], file: &str) -> bool {
+    let Some(flags) = calls::flags::Flags::read(flags) else {
+        return usage();
+    };
     let out = std::io::BufWriter::new(std::io::stdout().lock());
-    calls::list::run(&text(file), out).fine
+    calls::list::run(&text(file), flags, out).fine
 }
 
 fn main() {
@@ -60,17 +72,14 @@ fn main() {
         ["check", folder] => fine = check(folder),
         ["cases", file] => fine = cases::run(&text(file)),
         ["lists", folder] => fine = lists::check(folder),
-        ["calls", file] => fine = calls(file),
+        ["calls", ref flags @ .., file] => fine = calls(flags, file),
         ["write", folder] => lists::write(folder),
         ["vectors"] => vectors::run(),
         ["compare", program, folder, seed, n] => {
             fine = compare::run(program, folder, number(seed), number(n) as usize)
         }
         ["generate", seed, n] => print!("{}", generate::text(number(seed), number(n))),
-        _ => {
-            eprintln!("{USAGE}");
-            fine = false;
-        }
+        _ => fine = usage(),
     }
     std::process::exit(if fine { 0 } else { 1 });
 }

@@ -19,9 +19,20 @@ struct Stretch {
     missing: u64,
 }
 
+/// A gap: in which stretch, from 1, after which number, counted as the stretch's highest is, and how much is missing.
+#[derive(Debug, Clone, PartialEq)]
+pub struct Gap {
+    stretch: usize,
+    after: u64,
+    datagrams: u32,
+    samples: u64,
+}
+
 #[derive(Debug, Clone, Default)]
 pub struct Account {
     stretches: Vec<Stretch>,
+    /// The datagrams of all gaps.
+    lost: u64,
     handed: u64,
     waiting: u64,
     counts: [u64; 3],
@@ -55,33 +66,70 @@ impl Account {
         }
     }
 
-    /// A call and its answer; `samples` are those of a datagram that was accepted.
-    pub fn told(&mut self, call: &Call, answer: &Answer, samples: u64) {
+    /// The gap before an arrival that is not accounted yet.
+    fn gap(&self, a: &Arrival, missing: u64) -> Option<Gap> {
+        let after = self.stretches.last()?.highest;
+        Some(Gap {
+            stretch: self.stretches.len(),
+            after,
+            datagrams: number(&a.datagram)
+                .wrapping_sub(after as u32)
+                .wrapping_sub(1),
+            samples: missing,
+        })
+    }
+
+    /// A call and its answer; `samples` are those of a datagram that was accepted. A gap is given back.
+    pub fn told(&mut self, call: &Call, answer: &Answer, samples: u64) -> Option<Gap> {
+        let mut gap = None;
         match (call, answer) {
             (Call::Arrival(_), Answer::Iq(Event::Stale, _)) => {}
             (Call::Arrival(a), Answer::Iq(event, missing)) => {
-                self.accepted(a, event, *missing, samples)
+                if *event == Event::Gap {
+                    gap = self.gap(a, *missing);
+                }
+                self.lost += gap.as_ref().map_or(0, |g| g.datagrams as u64);
+                self.accepted(a, event, *missing, samples);
             }
             (Call::Take(..), Answer::Took(pairs, _)) => self.handed += *pairs as u64,
             _ => {}
         }
+        gap
     }
 
     pub fn stretches(&self) -> usize {
         self.stretches.len()
     }
 
-    /// Demand 3's two sums: in each stretch, and of what was handed out and what waits.
+    /// Demand 3's two sums: in each stretch, and of what was handed out and what waits. And the gaps' datagrams are those
+    /// that the session counted as dropped.
     pub fn adds_up(&self) -> bool {
         let even = |s: &Stretch| s.samples + s.missing == 238 * (s.highest - s.first as u64 + 1);
         let samples: u64 = self.stretches.iter().map(|s| s.samples).sum();
-        self.stretches.iter().all(even) && samples == self.handed + self.waiting
+        self.stretches.iter().all(even)
+            && samples == self.handed + self.waiting
+            && self.lost == self.counts[0]
     }
 
     /// What the session holds at its end.
     pub fn end(&mut self, waiting: u64, counts: [u64; 3]) {
         self.waiting = waiting;
         self.counts = counts;
+    }
+}
+
+impl fmt::Display for Gap {
+    fn fmt(&self, f: &mut fmt::Formatter<'_>) -> fmt::Result {
+        let Self {
+            stretch,
+            after,
+            datagrams,
+            samples,
+        } = self;
+        write!(
+            f,
+            "gap stretch {stretch} after {after} datagrams {datagrams} samples {samples}"
+        )
     }
 }
 

@@ -3,6 +3,8 @@ use crate::calls::account::Account;
 use crate::calls::answer::{answers, sent, Answer};
 use crate::calls::call::{Call, Settings};
 use crate::calls::feed::{expected_at, no_counterpart, ListFeed, NO_COUNTERPART};
+use crate::calls::flags::Flags;
+use crate::calls::found::expected;
 use crate::calls::parse;
 use crate::hpsdr::proto2::session::{self, Session};
 use crate::script::Problem;
@@ -26,12 +28,18 @@ fn read_list(text: &str) -> (Vec<(usize, Call)>, Option<Problem>) {
     (lines, None)
 }
 
+/// The first word of a call's line, which has one form.
+fn name(call: &Call) -> String {
+    call.to_string().split(' ').next().unwrap().into()
+}
+
 struct Runner<W: Write> {
     feed: Rc<RefCell<ListFeed>>,
     session: Option<Session>,
     /// The account of a session that was opened, until it is written.
     account: Option<Account>,
     ran: Ran,
+    flags: Flags,
     out: W,
 }
 
@@ -42,7 +50,7 @@ pub struct Ran {
     pub calls: usize,
     pub sessions: usize,
     pub stretches: usize,
-    /// Accounts whose sums are not those of demand 3.
+    /// Accounts that don't add up.
     pub uneven: usize,
     /// Whether no line went wrong, and whether one asks what the Rust can't be asked.
     pub fine: bool,
@@ -58,14 +66,23 @@ impl<W: Write> Runner<W> {
         samples: u64,
     ) -> Result<(), Problem> {
         self.ran.calls += 1;
-        writeln!(self.out, "{answer}").unwrap();
-        if let Some(account) = self.account.as_mut() {
-            account.told(call, &answer, samples);
-            if account.stretches() > parse::STRETCHES {
-                return Err(expected_at(line, "fewer stretches"));
-            }
+        if self.flags.numbered {
+            write!(self.out, "{line}: ").unwrap();
         }
-        Ok(())
+        writeln!(self.out, "{answer}").unwrap();
+        let Some(account) = self.account.as_mut() else {
+            return Ok(());
+        };
+        let gap = account.told(call, &answer, samples);
+        if let Some(gap) = gap.filter(|_| self.flags.gaps) {
+            writeln!(self.out, "{gap}").unwrap();
+        }
+        match account.stretches() {
+            n if n > parse::STRETCHES => {
+                Err(expected_at(line, &format!("fewer stretches, found {n}")))
+            }
+            _ => Ok(()),
+        }
     }
 
     fn close(&mut self, line: usize, call: Call) -> Result<(), Problem> {
@@ -121,7 +138,7 @@ impl<W: Write> Runner<W> {
         let Some(session) = self.session.as_mut() else {
             return Err(match self.account {
                 Some(_) => no_counterpart(line, "the session is closed"),
-                None => expected_at(line, "open"),
+                None => expected_at(line, &expected("open", Some(&name(&call)))),
             });
         };
         let answer = match &call {
@@ -152,8 +169,8 @@ impl<W: Write> Runner<W> {
 }
 
 /// Writes an answer a line, and the account of each session at its end. What goes wrong is the last line, and no account
-/// follows it.
-pub fn run(text: &str, out: impl Write) -> Ran {
+/// follows it. The text has one char an octet.
+pub fn run(text: &str, flags: Flags, out: impl Write) -> Ran {
     let (lines, wrong) = read_list(text);
     let feed = ListFeed {
         lines,
@@ -165,6 +182,7 @@ pub fn run(text: &str, out: impl Write) -> Ran {
         session: None,
         account: None,
         ran: Ran::default(),
+        flags,
         out,
     };
     let problem = runner.run().err().or(wrong);

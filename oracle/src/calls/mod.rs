@@ -3,6 +3,8 @@ pub mod account;
 pub mod answer;
 pub mod call;
 pub mod feed;
+pub mod flags;
+pub mod found;
 pub mod list;
 pub mod parse;
 pub mod write;

@@ -1,8 +1,10 @@
-//! Reads a line of a list of calls (docs/CALLS.md). What can't be read gives what was expected.
+//! Reads a line of a list of calls (docs/CALLS.md). What can't be read gives what was expected, and what was found.
 use crate::calls::call::{Arrival, Call, Datagram, Iq, Settings, Waiting};
+use crate::calls::found::expected;
 use std::net::Ipv4Addr;
 
-pub const LINE: usize = 16384;
+/// A line's octets.
+const LINE: usize = 100_000;
 pub const STRETCHES: usize = 4096;
 const PACKET_BUFFER: u64 = 8192;
 const TAKE_BUFFER: u64 = 1024;
@@ -104,42 +106,64 @@ struct Words<'a> {
     said: Vec<&'a str>,
 }
 
+/// A word `key=value`.
+struct Setting<'a> {
+    word: &'a str,
+    key: &'a str,
+    value: &'a str,
+}
+
 impl<'a> Words<'a> {
     /// The next word, read.
-    fn next<T>(&mut self, read: impl Fn(&'a str) -> Option<T>, expected: &str) -> Parsed<T> {
+    fn next<T>(&mut self, read: impl Fn(&'a str) -> Option<T>, what: &str) -> Parsed<T> {
         if self.words.is_empty() {
-            return Err(expected.into());
+            return Err(expected(what, None));
         }
-        read(self.words.remove(0)).ok_or(expected.into())
+        let word = self.words.remove(0);
+        read(word).ok_or_else(|| expected(what, Some(word)))
     }
 
     /// The next word, as a key among these that was not said yet, and its value. None at the line's end.
-    fn key(&mut self, keys: &[&str], expected: &str) -> Parsed<Option<(&'a str, &'a str)>> {
+    fn key(&mut self, keys: &[&str], what: &str) -> Parsed<Option<Setting<'a>>> {
         if self.words.is_empty() {
             return Ok(None);
         }
-        let (key, value) = self.words.remove(0).split_once('=').ok_or(expected)?;
-        if !keys.contains(&key) || self.said.contains(&key) {
-            return Err(expected.into());
+        let word = self.words.remove(0);
+        let known = |key: &str| keys.contains(&key) && !self.said.contains(&key);
+        match word.split_once('=').filter(|(key, _)| known(key)) {
+            Some((key, value)) => {
+                self.said.push(key);
+                Ok(Some(Setting { word, key, value }))
+            }
+            None => Err(expected(what, Some(word))),
         }
-        self.said.push(key);
-        Ok(Some((key, value)))
     }
 
     fn end(&self) -> Parsed<()> {
-        match self.words.is_empty() {
-            true => Ok(()),
-            false => Err(END.into()),
+        match self.words.first() {
+            None => Ok(()),
+            Some(word) => Err(expected(END, Some(word))),
         }
+    }
+}
+
+impl Setting<'_> {
+    fn read<T>(&self, read: impl Fn(&str) -> Option<T>) -> Parsed<T> {
+        let what = || expected(&format!("a value of {}", self.key), Some(self.word));
+        read(self.value).ok_or_else(what)
+    }
+
+    fn number(&self, most: u64) -> Parsed<u64> {
+        self.read(|v| number(v, most))
+    }
+
+    fn buffer(&self) -> Parsed<Option<usize>> {
+        self.number(PACKET_BUFFER).map(|n| Some(n as usize))
     }
 }
 
 const END: &str = "the end of the line";
 const READING: &str = "a reading";
-
-fn value<T>(key: &str, read: Option<T>) -> Parsed<T> {
-    read.ok_or_else(|| format!("a value of {key}"))
-}
 
 const SETTINGS: [&str; 13] = [
     "at",
@@ -159,28 +183,24 @@ const SETTINGS: [&str; 13] = [
 
 fn open(w: &mut Words) -> Parsed<Call> {
     let mut s = Settings::default();
-    while let Some((key, v)) = w.key(&SETTINGS, "a setting")? {
-        match key {
-            "at" => s.at = value(key, reading(v))?,
-            "receivers" => s.receivers = value(key, number(v, 65535))? as u32,
-            "centres" => s.centres = value(key, number(v, 65535))? as u32,
-            "rate" => s.rate = value(key, double(v))?,
-            "centre" => s.centre = value(key, double(v))?,
-            "port" => s.port = value(key, number(v, 65535))? as u16,
-            "radio" => s.radio = value(key, ipv4(v))?,
-            "board" => s.board = value(key, board(v))?,
-            "attenuation" => s.attenuation = value(key, attenuation(v))?,
-            "soft" => s.soft = value(key, reading(v))?,
-            "hard" => s.hard = value(key, reading(v))?,
-            "window" => s.window = value(key, number(v, u64::MAX))?,
-            _ => s.malformed = value(key, number(v, u32::MAX as u64))? as u32,
+    while let Some(said) = w.key(&SETTINGS, "a setting")? {
+        match said.key {
+            "at" => s.at = said.read(reading)?,
+            "receivers" => s.receivers = said.number(65535)? as u32,
+            "centres" => s.centres = said.number(65535)? as u32,
+            "rate" => s.rate = said.read(double)?,
+            "centre" => s.centre = said.read(double)?,
+            "port" => s.port = said.number(65535)? as u16,
+            "radio" => s.radio = said.read(ipv4)?,
+            "board" => s.board = said.read(board)?,
+            "attenuation" => s.attenuation = said.read(attenuation)?,
+            "soft" => s.soft = said.read(reading)?,
+            "hard" => s.hard = said.read(reading)?,
+            "window" => s.window = said.number(u64::MAX)?,
+            _ => s.malformed = said.number(u32::MAX as u64)? as u32,
         }
     }
     Ok(Call::Open(s))
-}
-
-fn buffer(key: &str, v: &str) -> Parsed<Option<usize>> {
-    value(key, number(v, PACKET_BUFFER)).map(|n| Some(n as usize))
 }
 
 /// The options of an arrival; those of I/Q belong to a datagram that is made from a number.
@@ -196,13 +216,13 @@ fn arrival(w: &mut Words, at: u64, later: u64, datagram: Datagram) -> Parsed<Cal
         Datagram::Iq(_) => &["waiting", "buffer", "length", "bits", "samples"],
         _ => &["waiting", "buffer"],
     };
-    while let Some((key, v)) = w.key(keys, END)? {
-        match (key, &mut a.datagram) {
-            ("waiting", _) => a.waiting = value(key, waiting(v))?,
-            ("buffer", _) => a.buffer = buffer(key, v)?,
-            ("length", Datagram::Iq(iq)) => iq.length = value(key, number(v, DATAGRAM))? as usize,
-            ("bits", Datagram::Iq(iq)) => iq.bits = value(key, number(v, 65535))? as u16,
-            ("samples", Datagram::Iq(iq)) => iq.samples = value(key, number(v, 65535))? as u16,
+    while let Some(said) = w.key(keys, END)? {
+        match (said.key, &mut a.datagram) {
+            ("waiting", _) => a.waiting = said.read(waiting)?,
+            ("buffer", _) => a.buffer = said.buffer()?,
+            ("length", Datagram::Iq(iq)) => iq.length = said.number(DATAGRAM)? as usize,
+            ("bits", Datagram::Iq(iq)) => iq.bits = said.number(65535)? as u16,
+            ("samples", Datagram::Iq(iq)) => iq.samples = said.number(65535)? as u16,
             _ => unreachable!(),
         }
     }
@@ -229,7 +249,7 @@ fn datagram(w: &mut Words, kind: &str) -> Parsed<Call> {
 /// The one option of a call that writes packets.
 fn packets(w: &mut Words) -> Parsed<Option<usize>> {
     match w.key(&["buffer"], END)? {
-        Some((key, v)) => buffer(key, v),
+        Some(said) => said.buffer(),
         None => Ok(None),
     }
 }
@@ -250,14 +270,14 @@ fn call(name: &str, w: &mut Words) -> Parsed<Call> {
         "stalled" => Call::Stalled,
         "close" => Call::Close(packets(w)?),
         "state" => Call::State,
-        _ => return Err("a call".into()),
+        _ => return Err(expected("a call", Some(name))),
     })
 }
 
-/// A line's call, None for a line without one, or what was expected.
+/// A line's call, None for a line without one, or what was expected. The text has one char an octet.
 pub fn line(text: &str) -> Parsed<Option<Call>> {
-    if text.len() > LINE {
-        return Err("a shorter line".into());
+    if text.chars().nth(LINE).is_some() {
+        return Err(format!("a shorter line, found more than {LINE} octets"));
     }
     let text = text.split('#').next().unwrap();
     let mut words: Vec<&str> = text

@@ -4,6 +4,7 @@ mod program;
 mod shrink;
 
 use crate::calls::call::Call;
+use crate::calls::flags::{self, unnumbered, Flags};
 use crate::calls::parse;
 use crate::lists::{answered, difference};
 use crate::random::Random;
@@ -47,8 +48,9 @@ impl Difference {
 /// The session, as a list of its own, that the Rust's n-th answer belongs to: of a list that it answers, it refuses an open
 /// and nothing else.
 fn session_of(list: &str, answers: &str, n: usize) -> String {
-    let opens = |line: &&str| *line == "opened" || line.starts_with("refused ");
-    let k = answers.lines().take(n).filter(opens).count();
+    let opens = |answer: &&str| *answer == "opened" || answer.starts_with("refused ");
+    let answers = answers.lines().take(n);
+    let k = answers.map(|l| unnumbered(l).1).filter(opens).count();
     let mut opened = 0;
     let of_session = list.lines().filter(|line| match parse::line(line) {
         Ok(Some(call)) => {
@@ -63,11 +65,12 @@ fn session_of(list: &str, answers: &str, n: usize) -> String {
 impl Comparison {
     fn difference(rust: &str, ours: &str) -> Option<Difference> {
         let answer = difference(rust, ours)?;
-        let at = |text: &str| {
-            text.lines()
-                .nth(answer - 1)
-                .unwrap_or("(no more)")
-                .to_string()
+        let at = |text: &str| match text.split_inclusive('\n').nth(answer - 1) {
+            Some(line) => match line.strip_suffix('\n') {
+                Some(line) => line.to_string(),
+                None => format!("{line} (and no newline)"),
+            },
+            None => "(no more)".into(),
         };
         Some(Difference {
             answer,
@@ -77,47 +80,51 @@ impl Comparison {
     }
 
     /// A list that the Rust answers to its end, and the program otherwise.
-    fn shown(&self, list: &str) -> Option<Difference> {
-        let (rust, ran) = answered(list);
+    fn shown(&self, list: &str, flags: Flags) -> Option<Difference> {
+        let (rust, ran) = answered(list, flags);
         if !ran.fine {
             return None;
         }
-        Self::difference(&rust, &self.program.start(list).answers(true)?)
+        Self::difference(&rust, &self.program.start(list, flags).answers(true)?)
     }
 
     /// Prints both answers, and the smallest list that is found to show a difference: of the session where it was seen if that
     /// shows one, else of the whole list.
-    fn shrink(&self, list: &str, rust: &str, first: &Difference) {
+    fn shrink(&self, list: &str, flags: Flags, rust: &str, first: &Difference) {
         first.print();
         let session = session_of(list, rust, first.answer);
         let mut starts = [session.as_str(), list].into_iter();
-        let Some(start) = starts.find(|l| self.shown(l).is_some()) else {
+        let Some(start) = starts.find(|l| self.shown(l, flags).is_some()) else {
             println!("run once more, the two don't differ");
             return;
         };
         let shrinking = Shrinking {
-            shows: |l: &str| self.shown(l).is_some(),
+            shows: |l: &str| self.shown(l, flags).is_some(),
             end: Instant::now() + SHRINKING,
         };
         let small = shrinking.smallest(start);
         println!("the smallest list found that shows it:\n\n{small}");
-        if let Some(difference) = self.shown(&small) {
+        if let Some(difference) = self.shown(&small, flags) {
             difference.print();
         }
     }
 
+    /// What the program answers, None where it has not ended.
+    fn ended(name: &str, answers: Option<String>) -> Option<String> {
+        if answers.is_none() {
+            let time = TIME.as_secs();
+            println!("{name}: the program has not ended after {time} s");
+        }
+        answers
+    }
+
     /// Compares one list. The first that differs is made smaller; of the others it is told which. None where the program has
     /// not ended: nothing is compared after it.
-    fn list(&mut self, name: &str, list: &str) -> Option<()> {
-        let running = self.program.start(list);
-        let (rust, ran) = answered(list);
-        let Some(ours) = running.answers(ran.fine) else {
-            println!(
-                "{name}: the program has not ended after {} s",
-                TIME.as_secs()
-            );
-            return None;
-        };
+    fn list(&mut self, name: &str, list: &str, flags: Flags) -> Option<()> {
+        let name = [&[name], &flags.words()[..]].concat().join(" ");
+        let running = self.program.start(list, flags);
+        let (rust, ran) = answered(list, flags);
+        let ours = Self::ended(&name, running.answers(ran.fine))?;
         if ran.outside {
             return Some(());
         }
@@ -132,9 +139,21 @@ impl Comparison {
                 difference.print();
             } else if !self.shrunk {
                 self.shrunk = true;
-                self.shrink(list, &rust, &difference);
+                self.shrink(list, flags, &rust, &difference);
             }
         }
+        Some(())
+    }
+
+    /// A list that the Rust can't be asked, against answers worked out by hand.
+    fn written(&mut self, name: &str, list: &str, expected: &str) -> Option<()> {
+        let running = self.program.start(list, flags::NONE);
+        let ours = Self::ended(name, running.answers(true))?;
+        if let Some(Difference { answer, rust, ours }) = Self::difference(expected, &ours) {
+            self.differ += 1;
+            println!("{name}: answer {answer}\n  by hand:        {rust}\n  of the program: {ours}");
+        }
+        self.lists += 1;
         Some(())
     }
 
@@ -153,27 +172,34 @@ impl Comparison {
             let most = PIECE.min(calls - made) as u64;
             let list = generate::text(piece, most);
             let name = format!("oracle/run generate {piece} {most}");
-            if piece % 2 == 0 {
-                self.list(&name, &list)?;
-            } else {
-                let other = forms::other(&mut Random::new(piece), &list);
-                self.list(&(name + ", its words in other forms"), &other)?;
+            // every second has its words in other forms, and every second of these is asked with all flags
+            match piece % 4 {
+                0 | 2 => self.list(&name, &list, flags::NONE)?,
+                n => {
+                    let other = forms::other(&mut Random::new(piece), &list);
+                    let name = name + ", its words in other forms";
+                    let flags = if n == 3 { flags::BOTH } else { flags::NONE };
+                    self.list(&name, &other, flags)?
+                }
             }
         }
         Some(())
     }
 
-    /// The lists of the repository in a folder, and the lines that can't be read.
+    /// The lists of the repository in a folder, with no flags and with all, and the lines that can't be read.
     fn stored(&mut self, top: &str) -> Option<()> {
         for path in lists::lists(&format!("{top}/lists")) {
-            self.list(&path.display().to_string(), &text(&path))?;
+            for flags in [flags::NONE, flags::BOTH] {
+                self.list(&path.display().to_string(), &text(&path), flags)?;
+            }
         }
         let lines = text(format!("{top}/lists/errors.txt"));
         let outside = text(format!("{top}/oracle/no_counterpart.txt"));
         for (name, list) in errors::all(&lines, &outside) {
-            self.list(&name, &list)?;
+            self.list(&name, &list, flags::NONE)?;
         }
-        Some(())
+        let (list, expected) = errors::too_many_waiting();
+        self.written("more waiting numbers than 01 allows", &list, &expected)
     }
 }
 

@@ -1,4 +1,6 @@
-//! A program that answers the list of calls in the file that its argument names.
+//! A program that answers the list of calls in the file that its last argument names, after its flags.
+use crate::calls::flags::Flags;
+use crate::octets;
 use std::io::Read;
 use std::path::PathBuf;
 use std::process::{Child, Command, Stdio};
@@ -30,9 +32,11 @@ impl Program {
         }
     }
 
-    pub fn start(&self, list: &str) -> Running {
-        std::fs::write(&self.list, list).unwrap_or_else(|e| panic!("{}: {e}", self.list.display()));
+    pub fn start(&self, list: &str, flags: Flags) -> Running {
+        std::fs::write(&self.list, octets::octets(list))
+            .unwrap_or_else(|e| panic!("{}: {e}", self.list.display()));
         let mut child = Command::new(&self.path)
+            .args(flags.words())
             .arg(&self.list)
             .stdin(Stdio::null())
             .stdout(Stdio::piped())
@@ -67,7 +71,7 @@ impl Running {
             return None;
         };
         let status = self.child.wait().unwrap();
-        let mut text = String::from_utf8_lossy(&octets).into_owned();
+        let mut text = octets::text(&octets);
         if !(status.success() || !fine && status.code().is_some()) {
             text += &format!("(it ended: {status})\n");
         }

@@ -4,7 +4,7 @@ mod feed;
 mod settings;
 
 use crate::calls::call::{Call, Settings};
-use crate::calls::{list, parse};
+use crate::calls::{flags, list, parse};
 use crate::hpsdr::proto2::session::aims::{seen, Limits};
 use crate::hpsdr::proto2::session::{self, End, Session};
 use crate::random::Random;
@@ -168,12 +168,12 @@ fn reads_back(list: &str) -> bool {
     list.lines().all(same)
 }
 
-/// Lists from further seeds: the Rust answers them all, and its accounts add up as demand 3 says.
+/// Lists from further seeds: the Rust answers them all, and its accounts add up.
 pub fn check() -> bool {
     let (mut calls, mut stretches, mut wrong) = (0, 0, 0);
     for seed in 101..=110 {
         let list = text(seed, 10_000);
-        let ran = list::run(&list, std::io::sink());
+        let ran = list::run(&list, flags::NONE, std::io::sink());
         calls += ran.calls;
         stretches += ran.stretches;
         if !ran.fine || ran.uneven > 0 || !reads_back(&list) {
