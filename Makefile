@@ -1,30 +1,24 @@
-# rt is taken from the PATH, or else from the toolchain's folder under RATTLE_HOME.
-RT := $(shell command -v rt 2>/dev/null || { [ -n "$$RATTLE_HOME" ] && echo "$$RATTLE_HOME/bin/rt"; })
 # The folder with manta's crates/. Where it is not there, `make test` leaves the oracle out.
 MANTA_SRC ?= $(wildcard ../shared/docs/src)
 export MANTA_SRC
 
-.PHONY: run test vectors oracle compare changes bench
-# Proves and builds the program `calls` where that is not done yet, and runs a list of calls through it: its answers, and its
-# account at the end.
+.PHONY: run test vectors seconds oracle compare changes bench
+# Runs a list of calls: its answers, and its account at the end. The first time, the program is proved and built.
 LIST ?= lists/first.calls
 run:
-	@[ -n "$(RT)" ] || { echo "make run: no rt on the PATH, and RATTLE_HOME is not set" >&2; exit 1; }
-	@log=$$(mktemp); $(RT) check calls > $$log 2>&1 || { cat $$log; rm -f $$log; exit 1; }; rm -f $$log
-	@target/bin/calls "$(LIST)"
+	@./waluntig calls "$(LIST)"
 
-# Proves every crate from nothing, tries every must-fail edit, runs every program, and then the oracle's own tests and the
-# comparison of the program `calls` with the Rust.
+# Proves every crate from nothing, tries every must-fail edit, runs every program, and then the rest (tools/test says what).
 test:
-	@[ -n "$(RT)" ] || { echo "make test: no rt on the PATH, and RATTLE_HOME is not set" >&2; exit 1; }
-	@tools/test "$(RT)"
+	@tools/test
 
-# Makes what the program `cases` is run on again: values worked out from 01, then the Rust's own. If a part fails, it
-# stays as it was.
-STDIN := crates/cases/stdin
+# Makes again what is made from other files (tools/vectors says which). If a part fails, all stays as it was.
 vectors:
-	@(for part in double wire attenuator part receiving; do python3 -B tools/$${part}_cases.py || exit 1; done; \
-	  echo; oracle/run vectors) > $(STDIN).new && mv $(STDIN).new $(STDIN) || { rm -f $(STDIN).new; exit 1; }
+	@rm -rf target/vectors; tools/vectors target/vectors && cp -R target/vectors/. .
+
+# Makes the table of seconds again, from which it is told how long a proof takes: from the log of the last `make test`.
+seconds:
+	@tools/seconds crates.txt target/ci.log > tools/seconds.new && mv tools/seconds.new tools/seconds.txt
 
 # Builds the Rust under its scripted clock and socket, and runs the cases and the lists of calls through it.
 oracle:
@@ -35,8 +29,7 @@ oracle:
 CALLS ?= 1000000
 SEED ?= $(shell date +%Y%m%d)
 compare:
-	@[ -n "$(RT)" ] || { echo "make compare: no rt on the PATH, and RATTLE_HOME is not set" >&2; exit 1; }
-	@$(RT) check calls
+	@tools/prove calls
 	@echo "make compare CALLS=$(CALLS) SEED=$(SEED)"
 	@oracle/run compare target/bin/calls . $(SEED) $(CALLS)
 
