@@ -14,7 +14,8 @@ test:
 
 # Makes again what is made from other files (tools/vectors says which). If a part fails, all stays as it was.
 vectors:
-	@rm -rf target/vectors; tools/vectors target/vectors && cp -R target/vectors/. .
+	@rm -rf target/vectors; tools/vectors target/vectors
+	@cd target/vectors && find . -type f | while read -r f; do cmp -s "$$f" "../../$$f" || cp "$$f" "../../$$f"; done
 
 # Makes the table of seconds again, from which it is told how long a proof takes: from the log of the last `make test`.
 seconds:
