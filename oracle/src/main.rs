@@ -1,4 +1,4 @@
-//! The Rust itself as the judge: manta's own files (build.rs), under a scripted clock and a scripted socket.
+//! The Rust itself as the judge: manta's own files (build.rs), with a clock and a socket that follow a script.
 mod calls;
 mod cases;
 mod clock;

@@ -54,7 +54,7 @@ module _ (t : SeqTracker) (lim seq : ℕ) where
   unfolding observed
   accepted-tracker h = moved-on (judged (t .expected) (t .«stale_run») seq) (ap (λ (v : SeqEvent). isStale (capped lim v)) (sym (moved-event t seq (judged (t .expected) (t .«stale_run») seq))) ∙ h)
 
-  -- a stale one only adds one to the stale run
+  -- a stale one makes the stale run one longer, and that is all
   pub stale-tracker : isStale (capped lim (observed t seq .event)) ≡ true → observed t seq .tracker ≡ record { expected = t .expected; «stale_run» = t .«stale_run» + 1 }
   unfolding observed
   stale-tracker h = stays (judged (t .expected) (t .«stale_run») seq) (ap (λ (v : SeqEvent). isStale (capped lim v)) (sym (moved-event t seq (judged (t .expected) (t .«stale_run») seq))) ∙ h)

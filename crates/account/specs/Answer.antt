@@ -31,7 +31,7 @@ pub data Answer : Type 0 where
   -- by 01's number
   refused : (number : ℕ) → Answer
   done : (word : Word) → Answer
-  -- valid I/Q: the event, and that arrival's missing
+  -- valid I/Q: the event, and what this arrival misses
   heard : (event : SeqEvent) (missing : ℕ) → Answer
   -- so many pairs were handed out
   took : (pairs : ℕ) → Answer

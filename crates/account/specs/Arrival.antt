@@ -76,7 +76,7 @@ unfoldable pub oneMore : Common → Common
 oneMore c =
     with-health (with-consecutive-malformed c (min (c .«consecutive_malformed» + 1) 4294967295)) (countMalformed (c .health))
 
--- with the consecutive count at or past the limit (0 acts as 1) the read closes
+-- where the consecutive count is now the limit or more, the read closes; a limit of 0 works like 1
 unfoldable pub heardMalformed : Session → List ℕ → Step Session
 heardMalformed s d =
     let after = with-common s (oneMore (s .common)) in

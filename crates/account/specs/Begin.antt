@@ -12,12 +12,12 @@ use Rattle.account.specs.declared.receiver.Anchor.the-variants.{Unset, A
 use Rattle.account.specs.declared.receiver.Receiver.{Receiver}
 use Rattle.account.specs.declared.session.Session.{Session}
 
--- the wait anchor is set if empty
+-- an anchor that is set stays; an empty one becomes this reading
 unfoldable pub orAt : Anchor → ℕ → Anchor
 orAt Unset now = At now
 orAt (At t) now = At t
 
--- a window of `size` opens or is refilled after a pause; the wait anchor is set if empty; this read keeps it
+-- a pause opens a window of `size` or fills an open one up; an empty wait anchor becomes `now`, and the read has a copy of it
 unfoldable pub begunBy : ℕ → Receiver → ℕ → Receiver
 begunBy size r now =
     let anchor = orAt (r .reading .«wait_entered») now in

@@ -1,5 +1,5 @@
--- The book of 01, Demand 3 over a list of calls: fed the settings, the opening reading, and for each call its kind, its arguments
--- without the session, and whether it was refused. Definitions only.
+-- The book of 01, Demand 3 over a list of calls. Besides the settings and the opening reading it is told, of each call, which it
+-- is and with what arguments, but not the session, and if it was refused. Definitions only.
 use Prim.Native.Nat.{ℕ, _+_, _-_, _*_, _%_}
 use mathlib.Core.Bool.{Bool, true, false, cond}
 use mathlib.Core.Option.{Option, some, none}
@@ -44,7 +44,7 @@ news s c false = newsOf s c
 
 -- ---- the book
 
--- e, once a number is expected; the stale run; the times of the last accepted arrival and the last Take; the park window
+-- e, once a number is expected; the stale run; when an arrival was last accepted, and when the last Take was; the park window
 pub record Book : Type 0 where
   pub expected : Option ℕ
   pub run : ℕ
@@ -52,7 +52,7 @@ pub record Book : Type 0 where
   pub taken : ℕ
   pub window : Window
 
--- both times start at the opening reading, with no window
+-- before the first call: both times are the opening reading, and no window is open
 abbrev pub blank : ℕ → Book
 blank now = record { expected = none; run = 0; accepted = now; taken = now; window = Shut }
 
@@ -90,15 +90,15 @@ missingIn (some e) false restart n = restart
 abbrev pub missing : Settings → Book → Incoming → ℕ → ℕ
 missing s b i n = missingIn (b .expected) (fit s b (i .now) n) (restartIn s b i n) n
 
--- one that fits below e only adds one to the stale run; any other empties that run, sets e and the accepted time, and its missing and
--- the window follow by the rules
+-- a number that fits below e makes the stale run one longer, and that is all; after any other the run is 0, e is the number that
+-- follows it, the accepted time is its reading, and the window is used by it and what it misses
 abbrev pub judged : Settings → Book → Incoming → ℕ → Book
 judged s b i n =
     cond (late b n)
     (record { expected = b .expected; run = b .run + 1; accepted = b .accepted; taken = b .taken; window = b .window })
     (record { expected = some (n + 1); run = 0; accepted = i .now; taken = b .taken; window = used (b .window) (missing s b i n) })
 
--- Begin moves the window and Take its time
+-- a Begin may open or refill the window, a Take is noted with its reading, and an arrival is judged
 abbrev pub noted : Settings → Book → News → ℕ → Book
 noted s b Quiet n = b
 noted s b (Began now) n =

@@ -1,4 +1,4 @@
--- Close: writes two high priority packets with run off. What waits and what is pending stays. Definitions only.
+-- Close: run is turned off, by two high priority packets. What waits and what is pending stays. Definitions only.
 use Prim.Native.Nat.{ℕ}
 use mathlib.Core.Bool.{true}
 use mathlib.Core.List.{List, []}

@@ -24,7 +24,7 @@ abbrev pub NearIn : Option ℕ → ℕ → Type 0
 NearIn none n = Unit {0}
 NearIn (some e) n = Near e n
 
--- the premise: an arrival's whole number leaves its count modulo 2^32 and, after the first, lies from 2^31 below e to 2^31 - 1 above
+-- the premise: an arrival's whole number is its count modulo 2^32 and, after the first, lies from 2^31 below e to 2^31 - 1 above
 abbrev pub Lies : Entry → Type 0
 Lies x = (x .number % 0x1_0000_0000 ≡ x .count) × NearIn (x .book .expected) (x .number)
 
@@ -34,7 +34,7 @@ pub record Judged (s : Settings) (x : Entry) : Type 0 where
   pub stale : (x .says .event ≡ some Stale) ↔ T (lateEntry x)
   pub first : x .book .expected ≡ none → x .says .event ≡ some InOrder
 
--- a stretch begins with the first arrival, and with each one told Restart, and ends before the next such or with the list
+-- a stretch runs from the first arrival, or from one told Restart, up to the next one told Restart or the list's end
 abbrev pub Stretch : List Entry → List Entry → Entry → List Entry → List Entry → Type 0
 Stretch entries before x xs past =
     (entries ≡ before ++ (x ∷ (xs ++ past))) × ((before ≡ []) ⊎ (x .says .event ≡ some Restart)) × Each (λ y. y .says .event ≢ some Restart) xs
@@ -51,7 +51,7 @@ pub record Sums (x : Entry) (xs : List Entry) : Type 0 where
 -- the claim about the lines of a list, the samples that wait after it, and its arrivals
 pub record Agrees (s : Settings) (ls : List Line) (waiting : List Sample) (entries : List Entry) : Type 0 where
   pub each : Each (Judged s) entries
-  -- what the Takes handed out, followed by what still waits, are the samples of all accepted arrivals, in order
+  -- what the Takes handed out and then what still waits: exactly the accepted arrivals' samples, as these came
   pub samples : handedOut ls ++ waiting ≡ samplesOf (accepted entries)
   pub sums : (before : List Entry) (x : Entry) (xs past : List Entry) → Stretch entries before x xs past → Sums x xs
 

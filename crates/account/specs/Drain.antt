@@ -1,4 +1,4 @@
--- The three drains: they return and empty pending_missing, pending_discontinuity and the stall flag, after Close too. Definitions only.
+-- The drains return pending_missing, pending_discontinuity and the stall flag, and clear them, after Close too. Definitions only.
 use mathlib.Core.List.{[]}
 use Rattle.stall.specs.Episode.{taken}
 use Rattle.account.specs.Answer.{slot, flag}

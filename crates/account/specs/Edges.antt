@@ -49,21 +49,21 @@ drains now n drain is = edge (after (Begin 0 ∷ Arrival (iqAt now n) room ∷ [
 
 abbrev pub sessionEdges : List Edge
 sessionEdges =
-    -- 48 kHz: gap 100 is 23,800 missing
+    -- at 48 kHz 100 lost datagrams are 23,800 samples, below half the rate
     arrives 0 106 (heard (Gap 100) 23800)
     ∷ drains 0 106 TakeMissing (Holds 23800)
     ∷ drains 0 106 TakeDiscontinuity Empty
-    -- 101 is a discontinuity of 24,038
+    -- 101 are 24,038 and so a discontinuity
     ∷ arrives 0 107 (heard (Gap 101) 24038)
     ∷ drains 0 107 TakeMissing Empty
     ∷ drains 0 107 TakeDiscontinuity (Holds 24038)
-    -- E = 0: gap 8192 accepted, 8193 restart, missing 0
+    -- E = 0: 8192 may be lost; one more is a restart, and misses nothing
     ∷ arrives 0 8198 (heard (Gap 8192) 1949696)
     ∷ arrives 0 8199 (heard Restart 0)
     ∷ drains 0 8199 TakeDiscontinuity (Holds 0)
-    -- 48 kHz, E = 1 s: restart missing 47,762
+    -- 48 kHz, E = 1 s: a restart misses 47,762
     ∷ arrives 1000000000 0 (heard Restart 47762)
-    -- port 65,524 accepted, 65,525 refused
+    -- 65,524 is the highest port that is accepted
     ∷ edge (told (settingsTold (usualAt 65524))) (told (gives (48 ∷ [])))
     ∷ edge (told (settingsTold (usualAt 65525))) (told (refused 6 []))
     ∷ []

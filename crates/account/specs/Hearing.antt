@@ -24,7 +24,7 @@ unfoldable pub restartOf : Float → Receiver → ℕ → ℕ → ℕ → List �
 restartOf rate r now later count waiting =
     restartMissing (outage rate (r .«last_accepted_iq») (r .parked .window) now later (after count) waiting) rate
 
--- Valid I/Q, Stale too, empties the wait anchor, and not the read's own
+-- a valid I/Q datagram, also a stale one, empties the wait anchor; the read's copy of it stays
 abbrev pub valid : Receiver → ℕ → Receiver
 valid r now = with-reading (with-last-valid-iq r now) (with-wait-entered (r .reading) Unset)
 
@@ -51,7 +51,7 @@ queued r now missing pending =
 unfoldable pub accepted : Float → Receiver → ℕ → ℕ → SeqEvent → ℕ → Receiver
 accepted rate r now count event missing = queued (leftOut r now count) now missing (pendingAfter rate event missing (r .pending))
 
--- a gap k adds k dropped and one gap, a restart one gap
+-- a gap of k counts k dropped datagrams and one gap, a restart just one gap
 unfoldable pub counted : SeqEvent → InputHealthCounters → InputHealthCounters
 counted InOrder c = c
 counted (Gap k) c = countGap (countDropped c k)

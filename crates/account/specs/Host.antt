@@ -44,7 +44,7 @@ pub record Host : Type 1 where
   pub step : State → Call → Step State
   pub waiting : State → List Sample
 
--- ---- a list of calls, each of which gets the state as the last one left it
+-- ---- a list of calls, each given the state that the call before it left
 
 -- the trace of a list: what each call got back
 abbrev pub trace : (h : Host) → h .State → List Call → List Reply

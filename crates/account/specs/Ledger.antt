@@ -97,7 +97,7 @@ fitting s x = fit s (x .book) (x .incoming .now) (x .number)
 abbrev pub lateEntry : Entry → Bool
 lateEntry x = late (x .book) (x .number)
 
--- an arrival that fits by lying below e is answered Stale; all but these are accepted
+-- all arrivals but those that fit below e, which are answered Stale
 abbrev pub accepted : List Entry → List Entry
 accepted [] = []
 accepted (x ∷ xs) = cond (lateEntry x) (accepted xs) (x ∷ accepted xs)

@@ -41,7 +41,7 @@ tuned s =
 unfoldable pub attenuationAt : Bool → ℕ → Attenuation
 attenuationAt on now = pick on (On (Controller.opened 0 now Controller.usual)) Off
 
--- all clocks and the last accepted reading hold the opening reading, stream counts are 0
+-- every clock and the last accepted reading are the opening reading, and no stream has sent a packet
 unfoldable pub freshCommon : Settings → ℕ → Common
 freshCommon s now =
     record {

@@ -1,4 +1,4 @@
--- Pass: Ready if samples wait; else soft stall, hard stall, then packets. Definitions only.
+-- Pass does the first that applies: Ready where samples wait, soft stall, hard stall, the packets that are due. Definitions only.
 use Prim.Native.Nat.{ℕ, _-_}
 use mathlib.Core.List.{List, []}
 use lib.ListN.{length}
@@ -18,7 +18,7 @@ use Rattle.account.specs.declared.session.Session.{Session}
 abbrev pub shut : Receiver → Receiver
 shut r = with-reading r (with-entered (r .reading) Unset)
 
--- soft: the stall flag is set, delivering goes off and the read closes; the Take time stays
+-- soft: the stall flag goes up, delivering ends, the read is closed; the last Take's time does not move
 unfoldable pub stallSoft : Session → List ℕ → Step Session
 stallSoft s d =
     replied (done softStall) [] d [] (with-receiver s (with-stall (shut (s .receiver)) (reported (s .receiver .stall))))

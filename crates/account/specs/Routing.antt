@@ -17,19 +17,19 @@ pub data Routed : Type 0 where
   ignored : Routed
   malformed : Routed
 
--- 7 to 9 become the answer Malformed
+-- what 7, 8 or 9 would refuse is malformed
 abbrev pub byHeader : Told → Routed
 byHeader (gives vs) = iq (getD vs 0 0)
 byHeader (refused k vs) = malformed
 
--- port offset 11 is I/Q, 1 status, others to 10 ignored, the rest malformed
+-- I/Q comes from offset 11 and status from offset 1; up to 10 the others are ignored, and above 11 all is malformed
 unfoldable pub byOffset : ℕ → List ℕ → Routed
 byOffset offset octets =
     pick (eqb offset 11) (byHeader (headerTold octets))
     (pick (eqb offset 1) status
     (pick (leb offset 10) ignored malformed))
 
--- a wrong address or IPv6 is malformed; so is a port below the base
+-- malformed unless the sender has the radio's IPv4 address and a port from the base up
 unfoldable pub routed : ℕ → ℕ → Sender → List ℕ → Routed
 routed radio base V6 octets = malformed
 routed radio base (V4 ip port) octets =

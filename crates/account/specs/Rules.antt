@@ -22,16 +22,16 @@ use Rattle.account.specs.Parts.{with-missing, with-discontinuity}
 
 -- ---- the park window
 
--- a pause of 100 ms opens a window of so many arrivals anchored at the last Take, or refills an open one
+-- after a pause: a window of `size` arrivals opens, anchored at the last Take; an open one is full again, all else of it stays
 unfoldable pub refilled : ℕ → ℕ → Window → Window
 refilled size taken Shut = Open taken 0 size
 refilled size taken (Open from accounted left) = Open from accounted size
 
--- Begin: 100 ms or more since the last Take
+-- a Begin comes after a pause if the last Take is at least 100 ms ago
 unfoldable pub begun : ℕ → ℕ → Window → ℕ → Window
 begun size taken w now = pick (leb 100000000 (now - taken)) (refilled size taken w) w
 
--- an accepted arrival adds 238 plus missing to the account and takes one from the window; at none left it closes
+-- an accepted arrival's 238 samples and its missing go into the account; it is one of the window's arrivals: the last closes it
 unfoldable pub used : Window → ℕ → Window
 used Shut missing = Shut
 used (Open from accounted left) missing =
@@ -39,7 +39,7 @@ used (Open from accounted left) missing =
 
 -- ---- elapsed time and the jump limit
 
--- E: the time since the last accepted I/Q, or, if more, in a park window the time from its anchor less its account over the rate
+-- E: how long ago an arrival was last accepted; in a park window, if larger, the time since its anchor less that of its account
 unfoldable pub elapsed : Float → ℕ → Window → ℕ → ℕ
 elapsed rate accepted Shut now = now - accepted
 elapsed rate accepted (Open from accounted left) now = max (now - accepted) (now - from - accountTime accounted rate)
@@ -60,7 +60,7 @@ datagrams (Gap k) = k + 1
 datagrams Stale = 0
 datagrams Restart = 1
 
--- the waiting total walks a copy of the tracker, as backlog_datagrams does; a gap over the limit is a restart here too
+-- the waiting total (backlog_datagrams): a copy of the tracker hears the numbers; here too a gap over the limit is a restart
 unfoldable pub backlog : ℕ → SeqTracker → List ℕ → ℕ
 backlog limit t [] = 0
 backlog limit t (seq ∷ waiting) =
@@ -74,8 +74,8 @@ expecting next = record { expected = Next next; «stale_run» = 0 }
 unfoldable pub uncovered : Float → ℕ → ℕ → List ℕ → ℕ
 uncovered rate bound next waiting = bound - coveredTime (backlog (jumpLimit bound rate) (expecting next) waiting) rate
 
--- the time that a restart misses: E, or in a window E at the later reading, last accepted already being this arrival, less what
--- waits covers
+-- the time that a restart misses: E; in a window, E as it is at the later reading with this arrival as the last accepted one, and
+-- without the time that what waits covers
 unfoldable pub outage : Float → ℕ → Window → ℕ → ℕ → ℕ → List ℕ → ℕ
 outage rate accepted Shut now later next waiting = elapsed rate accepted Shut now
 outage rate accepted (Open from accounted left) now later next waiting =
@@ -95,7 +95,7 @@ unfoldable pub added : Slot → ℕ → Slot
 added Empty n = Holds n
 added (Holds m) n = Holds (min (m + n) most)
 
--- a gap's missing goes, below half the rate, to pending_missing, else to pending_discontinuity; a restart's to the latter
+-- a gap's missing goes to pending_missing if it is below half the rate; if not, and for a restart, to pending_discontinuity
 unfoldable pub pendingAfter : Float → SeqEvent → ℕ → Pending → Pending
 pendingAfter rate InOrder missing p = p
 pendingAfter rate (Gap k) missing p =

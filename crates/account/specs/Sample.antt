@@ -1,4 +1,4 @@
--- A sample is an I, Q pair as f32, in the datagram's order. Definitions only.
+-- A sample: I and Q, both f32, as they stand in the datagram. Definitions only.
 use mathlib.Core.List.{List, [], _∷_}
 use lib.Ieee.{Float}
 

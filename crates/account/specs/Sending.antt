@@ -32,7 +32,7 @@ pub record Sending : Type 0 where
 abbrev pub idle : Common → Sending
 idle c = record { common = c; streams = []; octets = [] }
 
--- each packet starts where the one before ended
+-- packets stand one behind the other
 abbrev pub then : Sending → (Common → Sending) → Sending
 then s f =
     record { common = f (s .common) .common; streams = s .streams ++ f (s .common) .streams; octets = s .octets ++ f (s .common) .octets }
@@ -61,7 +61,7 @@ packetOf TxSpecific run c = txPacket (countOf TxSpecific c)
 packetOf HighPriority run c =
     highPacket (countOf HighPriority c) run (c .tuning .«phase_word») (c .tuning .alex .alex0) (c .tuning .alex .alex1) (level (c .attenuator .attenuation))
 
--- one of four counts, one for each command stream, rises by one modulo 2^32
+-- a stream's own count goes up by one, modulo 2^32; the other three stay
 abbrev pub raised : List ℕ → ℕ → List ℕ
 raised counts at = set counts at ((getD counts at 0 + 1) % 2 ^ 32)
 
@@ -90,7 +90,7 @@ rxTxIfDue now c = pick (leb 200000000 (now - c .clocks .«rx_tx_specific»)) (se
 unfoldable pub generalIfDue : ℕ → Common → Sending
 generalIfDue now c = pick (leb 800000000 (now - c .clocks .general)) (sendGeneral now c) (idle c)
 
--- high priority 100 ms, receive and transmit 200 ms, general 800 ms, in that order
+-- the shortest interval first: 100 ms for high priority, 200 ms for receive and transmit, 800 ms for general
 unfoldable pub keepalive : ℕ → Common → Sending
 keepalive now c = then (highIfDue now c) (λ (d : Common). then (rxTxIfDue now d) (generalIfDue now))
 
@@ -114,7 +114,7 @@ tick now (On controller) c = stepped now (ticked controller now) c
 unfoldable pub duePackets : ℕ → Common → Sending
 duePackets now c = then (keepalive now c) (λ (d : Common). tick now (d .attenuator .attenuation) d)
 
--- Close: two high priority packets with run off
+-- Close turns run off, by two high priority packets
 unfoldable pub stopPackets : Common → Sending
 stopPackets c = then (send HighPriority false c) (λ (d : Common). send HighPriority false d)
 

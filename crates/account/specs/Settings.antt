@@ -15,17 +15,17 @@ use Rattle.account.specs.declared.settings.SettingsAnswer.the-variants.{
 -- validate_protocol2
 unfoldable pub settingsTold : Settings → Told
 settingsTold s =
-    -- 1 receiver count not 1
+    -- 1 the receiver count is not 1
     pick (not (eqb (s .«ddc_count») 1)) (refused 1 [])
-    -- 2 not exactly one centre
+    -- 2 the number of centres is not 1
     (pick (not (eqb (s .«center_count») 1)) (refused 2 [])
-    -- 3 rate not 48000, 96000, 192000 or 384000 Hz
+    -- 3 the rate is none of those in wire's Rate
     (pick (not (isRate (s .«sample_rate_hz»))) (refused 3 [])
-    -- 4 centre not finite, not above 0, or not whole
+    -- 4 the centre is a NaN or an infinity, is 0 or below, or has a fraction
     (pick (not (wholeCentre (s .«center_freq_hz»))) (refused 4 [])
-    -- 5 centre 61,440,000 Hz or more
+    -- 5 the centre is 61,440,000 Hz or higher
     (pick (not (belowNyquist (s .«center_freq_hz»))) (refused 5 [])
-    -- 6 port above 65,524
+    -- 6 the port is above 65,524
     (pick (ltb 65524 (s .port)) (refused 6 [])
     -- the rate in kHz
     (gives (khzOf (s .«sample_rate_hz») ∷ [])))))))

@@ -42,21 +42,21 @@ abbrev pub orZero : Anchor → ℕ
 orZero Unset = 0
 orZero (At t) = t
 
--- the later of last valid I/Q and this read's anchor
+-- when quiet began: at the last valid I/Q datagram or at the read's anchor, whichever is later
 unfoldable pub quietSince : Receiver → ℕ
 quietSince r = max (r .«last_valid_iq») (orZero (r .reading .entered))
 
 -- ---- refusals
 
--- 10 session closed; no read open (Pass, Arrival, Take)
+-- 10 of Pass, Arrival and Take: the session is closed or has no open read
 abbrev pub notReading : Session → Bool
 notReading s = s .common .closed || not (isOpen (s .receiver))
 
--- 10 session closed; Begin with a read open
+-- 10 of Begin: the session is closed or has an open read
 abbrev pub notIdle : Session → Bool
 notIdle s = s .common .closed || isOpen (s .receiver)
 
--- 11 reading below the last accepted one
+-- 11: the reading is lower than the last one that was accepted
 abbrev pub fell : Session → ℕ → Bool
 fell s now = ltb now (s .common .«last_reading»)
 

@@ -1,4 +1,4 @@
--- The command streams: each goes to the port plus 0 general, 1 receive, 2 transmit, 3 high priority. Definitions only.
+-- The command streams: general at the radio's port; receive, transmit and high priority 1, 2 and 3 above it. Definitions only.
 use Prim.Native.Nat.{ℕ, _+_, _-_, _%_, _^_}
 use mathlib.Core.List.{List, _++_}
 use lib.ListN.{length, replicate}

@@ -1,4 +1,4 @@
--- Take: hands out I, Q pairs up to buffer or queue, closes the read, sets delivering. Definitions only.
+-- Take: as many pairs of the queue as the buffer has room for; then the read is closed and delivering is on. Definitions only.
 use Prim.Native.Nat.{ℕ, _+_, _*_, _/_, min}
 use mathlib.Core.Bool.{not}
 use mathlib.Core.List.{List, []}

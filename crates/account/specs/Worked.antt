@@ -167,7 +167,7 @@ fitCases =
     ∷ yes (fitsBelow 0 6 5)
     ∷ []
 
--- ---- settings: the first row that applies wins
+-- ---- settings: of all rows that apply the first is told
 
 abbrev rows : ℕ → Float → Float → ℕ → Told → Edge
 rows receivers rate centre port is =

@@ -1,5 +1,5 @@
--- The attenuator, 01: 6 dB up, to 30, after a run of 2 s with a hold of 0.5 s; 6 dB down after 600 s without overload.
--- Definitions only. A difference of readings is of natural numbers, and so never below 0.
+-- The attenuator, 01: 6 dB more, 30 at most, when overload reports no more than 0.5 s apart went on for 2 s; 6 dB less after a
+-- quiet of 600 s. Definitions only. A difference of readings is of natural numbers, and so never below 0.
 use Prim.Native.Nat.{ℕ, _+_, _-_, min}
 use mathlib.Core.Bool.{Bool, false, not, _&&_}
 use lib.Dec.{leb, ltb, eqb}

@@ -1,4 +1,4 @@
-// Automatic attenuation of ADC0: 6 dB up, to 30, after a run of overload, 6 dB down after a quiet time. It reads no clock:
+// Automatic attenuation of ADC0: 6 dB more, 30 at most, where overload goes on; 6 dB less after a quiet time. It reads no clock:
 // readings come in as arguments. 01, The session, Attenuator.
 ghost use mathlib.Core.Path.{_≡_};
 ghost use Rattle.attenuator.specs.Controller.{usual, up, down, opened, runStart, heard, trips, observed, releases, ticked};

@@ -14,7 +14,7 @@ giga-is : giga ≡ ofInt binary64 (pos 1000000000)
 unfolding ofInt
 giga-is = refl
 
--- 01, Numbers in the stream: seconds are whole seconds plus nanoseconds / 1e9 in doubles
+-- 01, Numbers in the stream: a time as a double is its whole seconds, plus the rest in nanoseconds / 1e9
 unfoldable pub secondsOf : ℕ → Float
 secondsOf ns = add binary64 (ofInt binary64 (pos (ns / 1000000000))) (div binary64 (ofInt binary64 (pos (ns % 1000000000))) giga)
 
@@ -22,6 +22,6 @@ secondsOf ns = add binary64 (ofInt binary64 (pos (ns / 1000000000))) (div binary
 abbrev pub nanosAt : ℕ → ℕ → ℕ
 nanosAt a c = nearest (a * 1000000000 / c) (compare (a * 1000000000 % c * 2) c)
 
--- 01: rounding the double's seconds to nanoseconds, ties to even. Rust's `Duration::from_secs_f64`
+-- 01: the nanoseconds nearest to a double's seconds, of two the even one. Rust's `Duration::from_secs_f64`
 abbrev pub nanosOf : Float → ℕ
 nanosOf x = natOf nanosAt x

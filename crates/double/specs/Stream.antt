@@ -37,7 +37,7 @@ plausible ns rate = mul binary64 (mul binary64 (secondsOf ns) (div binary64 rate
 unfoldable pub jumpLimit : ℕ → Float → ℕ
 jumpLimit ns rate = min (ceilOf (plausible ns rate) + 8192) most
 
--- a restart's missing: round(seconds × rate) - 238, at least 0. The 238 comes off in doubles, and `floorOf` gives 0 below 0
+-- a restart's missing: round(seconds × rate) - 238. The 238 comes off in doubles, and `floorOf` gives 0 below 0
 unfoldable pub restartMissing : ℕ → Float → ℕ
 restartMissing ns rate = floorOf (sub binary64 (rounded (mul binary64 (secondsOf ns) rate)) perDatagram)
 

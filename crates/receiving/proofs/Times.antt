@@ -59,7 +59,7 @@ module _ (w : Window) (missing : ℕ) where
         let s : all ≡ min (accounted + (238 + missing)) most = omega (arith, ha, hh) in
         ap (λ (n : ℕ). Open from n (left - 1)) s ∙ sym (ap (λ (x : Window). used x missing) e ∙ pick-f _ _ _ (lt-leb left 1 h))
 
--- ---- the later of last valid I/Q and the read's anchor
+-- ---- when quiet began
 
 module _ (r : Receiver) where
   pub no-anchor : r .reading .entered ≡ Unset → r .«last_valid_iq» ≡ quietSince r

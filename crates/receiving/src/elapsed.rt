@@ -13,7 +13,7 @@ use wire::sequence::Expected;
 use wire::sequence::SeqEvent;
 use wire::sequence::SeqTracker;
 
-// E: since the last accepted arrival, or, if more, in a park window since its anchor, less the time of its account.
+// E: how long ago an arrival was last accepted; in a park window, if larger, the time since its anchor less that of its account.
 pub fn unaccounted(rate: f64, accepted: u64, window: Window, now: u64) -> u64
     ensures { λ r. ⌜ r ≡ Rules.elapsed rate accepted window now ⌝ }
 {

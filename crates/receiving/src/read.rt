@@ -20,7 +20,7 @@ pub fn is_set(anchor: Anchor) -> bool
     }
 }
 
-// The later of last valid I/Q and this read's anchor.
+// When quiet began: at the last valid I/Q datagram or at the read's anchor, whichever is later.
 pub fn quiet_since(r: Receiver) -> u64
     ensures { λ t. ⌜ t ≡ State.quietSince r ⌝ }
 {
@@ -50,7 +50,7 @@ pub fn shut(r: Receiver) -> Receiver
     next
 }
 
-// A soft stall is reported and the read closes; the Take time stays.
+// A soft stall is reported and the read is closed; the last Take's time does not move.
 pub fn stalled(r: Receiver) -> Receiver
     ensures { λ q. ⌜ q ≡ with-stall (Pass.shut r) (reported (r .stall)) ⌝ }
 {
@@ -61,7 +61,7 @@ pub fn stalled(r: Receiver) -> Receiver
     next
 }
 
-// The wait anchor is set if empty.
+// An anchor that is set stays; an empty one becomes this reading.
 fn or_at(anchor: Anchor, now: u64) -> Anchor
     ensures { λ r. ⌜ r ≡ Begin.orAt anchor now ⌝ }
 {

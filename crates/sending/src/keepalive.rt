@@ -18,7 +18,7 @@ const RX_TX_SPECIFIC_EVERY: u64 = 200_000_000;
 
 const GENERAL_EVERY: u64 = 800_000_000;
 
-// A high priority packet, which restarts the 100 ms.
+// A high priority packet; its keepalive is due again 100 ms from here.
 fn send_high_priority(p: Progress, reading: u64, packets: &mut [u8]) -> Progress
     requires { ⌜ HasRoom 1444 1 p (length (now packets)) ⌝ }
     ensures { λ r. ⌜ Sends (Sending.sendHigh reading (p .common)) p (now (packets .entry)) r (now (packets .exit)) ⌝ }

@@ -129,7 +129,7 @@ pub fn send(p: Progress, stream: Stream, run: bool, packets: &mut [u8]) -> Progr
     }
 }
 
-// Two high priority packets with run off.
+// Run turned off, by two high priority packets.
 pub fn send_stop(p: Progress, packets: &mut [u8]) -> Progress
     requires { ⌜ HasRoom 2888 2 p (length (now packets)) ⌝ }
     ensures { λ r. ⌜ Sends (Sending.stopPackets (p .common)) p (now (packets .entry)) r (now (packets .exit)) ⌝ }

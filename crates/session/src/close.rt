@@ -1,4 +1,4 @@
-// Close: two high priority packets with run off.
+// Close: run is turned off, by two high priority packets.
 ghost use Prim.Native.Nat.{_≤_};
 ghost use mathlib.Core.Path.{_≡_};
 ghost use mathlib.Core.List.{[]};

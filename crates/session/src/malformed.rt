@@ -34,7 +34,7 @@ fn note_malformed(c: Common) -> Common
     next
 }
 
-// With the consecutive count at or past the limit the read closes.
+// Where the consecutive count is now the limit or more, the read closes.
 pub(crate) fn malformed(s: Session) -> Arrived
     ensures { λ r. ⌜ ((d : List ℕ) → Gives (arrivalAnswer (r .answer)) (r .streams) d (r .session) (heardMalformed s d)) ⌝ }
 {

@@ -1,4 +1,4 @@
-// Pass: Ready if samples wait; else soft stall, hard stall, then packets.
+// Pass does the first that applies: Ready where samples wait, soft stall, hard stall, the packets that are due.
 ghost use Prim.Native.Nat.{_≤_};
 ghost use mathlib.Core.Path.{_≡_};
 ghost use mathlib.Core.List.{[]};

@@ -28,7 +28,7 @@ pub(crate) fn not_idle(s: Session) -> bool
     is_set(entered)
 }
 
-// 11: reading below the last accepted one.
+// 11: the reading is lower than the last one that was accepted.
 pub(crate) fn fell(s: Session, now: u64) -> bool
     ensures { λ r. ⌜ r ≡ State.fell s now ⌝ }
 {

@@ -1,4 +1,4 @@
-// Take: hands out I, Q pairs up to buffer or queue, closes the read, sets delivering.
+// Take: as many pairs of the queue as the buffer has room for; then the read is closed and delivering is on.
 ghost use mathlib.Core.Path.{_≡_};
 ghost use mathlib.Core.List.{[]};
 ghost use Prim.Native.Nat.{min};

@@ -13,11 +13,11 @@ unarmed soft = record { «soft_after» = soft; delivering = false; pending = fal
 abbrev pub delivered : StallEpisode → StallEpisode
 delivered e = record { «soft_after» = e .«soft_after»; delivering = true; pending = e .pending }
 
--- soft: delivering, hard time above soft time, and soft time passed since last, which the caller chooses as 01 says
+-- while delivering, if the hard time is the longer one: due once the soft time is over. The caller chooses last as 01 says
 unfoldable pub isDue : StallEpisode → ℕ → ℕ → ℕ → Bool
 isDue e last now hard = e .delivering && ltb (e .«soft_after») hard && leb (e .«soft_after») (now - last)
 
--- the stall flag is set, delivering goes off
+-- the stall flag goes up, and delivering ends
 abbrev pub reported : StallEpisode → StallEpisode
 reported e = record { «soft_after» = e .«soft_after»; delivering = false; pending = true }
 

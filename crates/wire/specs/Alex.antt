@@ -1,4 +1,4 @@
--- The Alex filter words: three ladders of six rungs each, and the words of each scheme. Definitions only.
+-- The Alex filter words: three ladders, each of six rungs, and the words of each scheme. Definitions only.
 use Prim.Native.Nat.{ℕ}
 use mathlib.Core.Bool.{Bool, true, false}
 use mathlib.Core.List.{List, [], _∷_, map}

@@ -1,4 +1,4 @@
--- The I/Q datagram: count, 12 bits, 14 samples, 16 on signed 24-bit I then Q, each over 2^23. Definitions only.
+-- The I/Q datagram: count, bits at 12, samples at 14; from 16 on I and Q in turn, 24-bit signed and over 2^23. Definitions only.
 use Prim.Native.Nat.{ℕ, _+_, _-_, _*_}
 use mathlib.Core.Bool.{Bool, not}
 use mathlib.Core.Path.{_≡_}

@@ -10,7 +10,7 @@ use Rattle.wire.specs.declared.sequence.SeqEvent.the-variants.{InOrder, 
 use Rattle.wire.specs.declared.sequence.SeqTracker.{SeqTracker}
 use Rattle.wire.specs.declared.sequence.Observed.{Observed}
 
--- the arrival less the expected number, modulo 2^32
+-- d: how far a number lies past the expected one, modulo 2^32
 unfoldable pub less : ℕ → ℕ → ℕ
 less seq expected = (seq + 2 ^ 32 - expected) % 2 ^ 32
 
@@ -43,7 +43,7 @@ meant d run seq =
     (pick (behind d) (pick (eighth run) Restart Stale)
     Restart)))
 
--- with no number expected yet, any number is InOrder
+-- while none is expected every number is InOrder
 abbrev pub judged : Expected → ℕ → ℕ → SeqEvent
 judged Nothing run seq = InOrder
 judged (Next expected) run seq = meant (less seq expected) run seq
@@ -54,7 +54,7 @@ rebaselined seq event = record { event = event; tracker = record { expected = Ne
 abbrev pub kept : SeqTracker → Observed
 kept t = record { event = Stale; tracker = record { expected = t .expected; «stale_run» = t .«stale_run» + 1 } }
 
--- only Stale keeps the expected number
+-- after Stale the same number is expected as before, after any other event the one that follows
 abbrev pub moved : SeqTracker → ℕ → SeqEvent → Observed
 moved t seq InOrder = rebaselined seq InOrder
 moved t seq (Gap d) = rebaselined seq (Gap d)

@@ -1,4 +1,4 @@
-// The Alex filter words of a board at a frequency: three ladders of six rungs each.
+// The Alex filter words of a board at a frequency: three ladders, each of six rungs.
 ghost use mathlib.Core.Path.{_≡_};
 ghost use Rattle.wire.specs.Search.{first};
 ghost use Rattle.wire.specs.Alex.{onRung, ladderOf, hpfOf, lpfOf, bpfOf, alexWords};

@@ -1,4 +1,4 @@
-// The I/Q datagram: its header, and its 238 pairs of signed 24-bit numbers as f32.
+// The I/Q datagram: its header, and its 238 pairs as f32, which come as 24-bit signed numbers.
 ghost use mathlib.Core.Path.{_≡_};
 ghost use Prim.Native.Nat.{_+_, _≤_, _<_};
 ghost use lib.ListN.{length};

@@ -3,7 +3,7 @@ use crate::calls::answer::{Answer, Event};
 use crate::calls::call::{Arrival, Call, Datagram};
 use std::fmt;
 
-/// A stretch begins with the first arrival, and with each one told Restart.
+/// It begins with the first arrival, or with one told Restart.
 #[derive(Debug, Clone)]
 struct Stretch {
     /// Its first arrival's reading and number, and the missing that a Restart told there.
