@@ -2,6 +2,7 @@
 use super::output::ROOM;
 use super::output::named;
 use super::output::named_hex;
+use super::output::number;
 use super::output::put;
 use lines::Expected;
 use lines::LONGEST;
@@ -153,7 +154,7 @@ fn put_found(out: &mut [u8; ROOM], at: usize, line: &[u8], e: Expected, stretche
             let end = named(out, at, b"more than ", LONGEST as u64);
             put(out, end, b" octets")
         }
-        Expected::FewerStretches => named(out, at, b"", stretches as u64),
+        Expected::FewerStretches => number(out, at, stretches as u64),
         _ => put_word(out, at, line, e),
     }
 }

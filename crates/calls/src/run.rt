@@ -11,6 +11,7 @@ use super::input::nothing;
 use super::output::ROOM;
 use super::output::flush;
 use super::output::named;
+use super::output::number;
 use super::output::put;
 use super::state;
 use super::stretches;
@@ -106,7 +107,7 @@ fn numbered(out: &mut [u8; ROOM], d: Desk) -> usize {
     if !d.flags.numbered {
         return d.out;
     }
-    let end = named(out, d.out, b"", d.line);
+    let end = number(out, d.out, d.line);
     put(out, end, b": ")
 }
 
