@@ -6,6 +6,7 @@ use super::output::number;
 use super::output::put;
 use lines::Expected;
 use lines::LONGEST;
+use lines::first_word;
 use lines::found;
 use text::Word;
 
@@ -125,12 +126,7 @@ fn stands(out: &mut [u8; ROOM], at: usize, word: &[u8]) -> usize {
     quoted(out, at, word)
 }
 
-// Its name, of a call where there is no session.
-fn first_word(line: &[u8]) -> Word {
-    let comment = text::find(line, b'#');
-    text::word_at(&line[0..comment], 0)
-}
-
+// Of a call where there is no session, its name.
 fn word_of(line: &[u8], e: Expected) -> Word {
     match e {
         Expected::Open => first_word(line),

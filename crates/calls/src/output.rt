@@ -7,7 +7,7 @@ use libc::STDOUT_FILENO;
 pub(crate) const ROOM: usize = 65536;
 
 // In place of how many octets are still to be written: a write failed.
-pub(crate) const FAILED: usize = 65537;
+pub(crate) const FAILED: usize = ROOM + 1;
 
 // Writes the first `at` octets; how many are still to be written then.
 pub(crate) fn flush(out: &[u8; ROOM], at: usize) -> usize {
@@ -20,6 +20,18 @@ pub(crate) fn flush(out: &[u8; ROOM], at: usize) -> usize {
     }
     os::fail(b"standard output");
     FAILED
+}
+
+// Writes the first `at` octets as the last ones; whether they are written. Some systems tell only at the close that a write failed.
+pub(crate) fn finish(out: &[u8; ROOM], at: usize) -> bool {
+    if flush(out, at) > ROOM {
+        return false;
+    }
+    if libc::close(STDOUT_FILENO) < 0 {
+        os::fail(b"standard output");
+        return false;
+    }
+    true
 }
 
 fn copy(out: &mut [u8], at: usize, s: &[u8])

@@ -9,6 +9,7 @@ use super::input::ROOM as INPUT;
 use super::input::fill;
 use super::input::nothing;
 use super::output::ROOM;
+use super::output::finish;
 use super::output::flush;
 use super::output::named;
 use super::output::number;
@@ -475,14 +476,19 @@ fn goes_on(d: Desk) -> bool {
 fn end(d: Desk, name: &[u8], out: &mut [u8; ROOM]) -> u8 {
     if d.input.failed {
         os::fail(name);
-        let end = error::unread(out, d.out, wrapping_add_u64(d.line, 1));
-        flush(out, end);
-        return 2;
+        return unread(out, d.out, wrapping_add_u64(d.line, 1));
     }
-    if flush(out, d.out) > ROOM {
-        return 2;
+    if finish(out, d.out) {
+        return d.status;
     }
-    d.status
+    2
+}
+
+// The list can't be read on from this line.
+fn unread(out: &mut [u8; ROOM], at: usize, line: u64) -> u8 {
+    let end = error::unread(out, at, line);
+    finish(out, end);
+    2
 }
 
 // Runs the list that is read from fd, whose name is told where it can't be read. A proved loop has to end, and nothing says that a
@@ -527,7 +533,5 @@ pub(crate) fn run(fd: i32, name: &[u8], flags: Flags) -> u8 {
 // A list that there is no file of: nothing of it is run.
 pub(crate) fn no_list() -> u8 {
     let mut out = [0u8; ROOM];
-    let end = error::unread(&mut out, 0, 1);
-    flush(&out, end);
-    2
+    unread(&mut out, 0, 1)
 }

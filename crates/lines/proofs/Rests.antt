@@ -1,4 +1,4 @@
--- Where the reading of a line stops: what each way through gives. Assumes nothing.
+-- A line's first word, and where its reading stops: what each way through gives. Assumes nothing.
 use mathlib.Core.Path.{_≡_, refl, sym, ap, _∙_}
 use mathlib.Core.List.{List, [], _∷_}
 use Prim.Native.Nat.{ℕ, _≤_, _<_}
@@ -13,7 +13,7 @@ use Rattle.text.proofs.Splits.{no-word, one-word, part-front}
 use Rattle.lines.specs.Argument.{names, form, argumentValues, Arguments}
 use Rattle.lines.specs.Option.{optionsRest, Stopped}
 use Rattle.lines.specs.Call.{ends, unsaid, argumentsOf}
-use Rattle.lines.specs.Found.{restNamed, restWords, firstWord, foundIn, Found}
+use Rattle.lines.specs.Found.{restNamed, restWords, foundIn, firstIn, Stands}
 
 -- ---- among the words after a name
 
@@ -43,42 +43,49 @@ module _ (name : ℕ) (s l : List ℕ) (ws : List (List ℕ)) (u : l ≡ unsaid)
 
 -- ---- in a line
 
-first-before : (w : List ℕ) (ws : List (List ℕ)) → firstWord (before w ws) ≡ w
-unfolding firstWord before
+first-before : (w : List ℕ) (ws : List (List ℕ)) → getD (before w ws) 0 [] ≡ w
+unfolding before
 first-before [] ws = refl
 first-before (x ∷ xs) ws = refl
 
 module _ (line s : List ℕ) (q : s ≡ take (run (other 35) line) line) where
-  -- the word at which the words that can be read end
-  pub stands : (at a e : ℕ) → WordAt s at a e → words (drop at s) ≡ restWords (words s) → Found line a e
-  unfolding foundIn
-  stands at a e w r =
+  -- a word of what stands before the comment is the first of some words
+  stands : (at a e : ℕ) → WordAt s at a e → (ws : List (List ℕ)) → words (drop at s) ≡ ws → Stands line (getD ws 0 []) a e
+  stands at a e w ws r =
       record {
         ordered = w .ordered;
         within = omega (arith, w .within, ap length q, length-take (run (other 35) line) line);
-        word =
+        reads =
             part-front line (run (other 35) line) a e (w .ordered) (rw q at (w .within))
             ∙ ap (λ (x : List ℕ). part x a e) (sym q)
             ∙ sym (first-before (part s a e) (words (drop e s)))
-            ∙ ap firstWord (sym (w .reads) ∙ r ∙ ap (λ (x : List ℕ). restWords (words x)) q);
+            ∙ ap (λ (x : List (List ℕ)). getD x 0 []) (sym (w .reads) ∙ r);
       }
 
+  pub first-stands : (a e : ℕ) → WordAt s 0 a e → Stands line (firstIn line) a e
+  unfolding firstIn
+  first-stands a e w = stands 0 a e w _ (ap words q)
+
+  found-stands : (at a e : ℕ) → WordAt s at a e → words (drop at s) ≡ restWords (words s) → Stands line (foundIn line) a e
+  unfolding foundIn
+  found-stands at a e w r = stands at a e w _ (r ∙ ap (λ (x : List ℕ). restWords (words x)) q)
+
   module _ (a e : ℕ) (w : WordAt s 0 a e) where
-    pub no-words : a ≡ e → Found line a e
+    pub no-words : a ≡ e → Stands line (foundIn line) a e
     unfolding restWords
-    no-words z = let o = no-word s 0 a e w z in stands 0 a e w (o ∙ sym (ap restWords o))
+    no-words z = let o = no-word s 0 a e w z in found-stands 0 a e w (o ∙ sym (ap restWords o))
 
     module _ (z : a ≡ e → ⊥) (name : ℕ) (k : name ≡ place (part s a e) names) where
-      pub no-name : 11 < name → Found line a e
+      pub no-name : 11 < name → Stands line (foundIn line) a e
       unfolding restWords
       no-name b =
           let o = one-word s 0 a e w z in
-          stands 0 a e w (o ∙ sym (pick-t _ _ _ (lt-ltb 11 (place (part s a e) names) (omega arith))) ∙ ap restWords (sym o))
+          found-stands 0 a e w (o ∙ sym (pick-t _ _ _ (lt-ltb 11 (place (part s a e) names) (omega arith))) ∙ ap restWords (sym o))
 
-      pub after-name : name ≤ 11 → (at x y : ℕ) → words (drop at s) ≡ restNamed name (words (drop e s)) → WordAt s at x y → Found line x y
+      pub after-name : name ≤ 11 → (at x y : ℕ) → words (drop at s) ≡ restNamed name (words (drop e s)) → WordAt s at x y → Stands line (foundIn line) x y
       unfolding restWords
       after-name b at x y h v =
-          stands at x y v
+          found-stands at x y v
           (h
           ∙ ap (λ (i : ℕ). restNamed i (words (drop e s))) k
           ∙ sym (pick-f _ _ _ (le-ltb 11 (place (part s a e) names) (omega arith)))

@@ -1,4 +1,4 @@
--- What stands in a line where its reading stops. Definitions only.
+-- What stands in a line: its first word, and the word at which its reading stops. Definitions only.
 use Prim.Native.Nat.{ℕ, _≤_}
 use mathlib.Core.Path.{_≡_}
 use mathlib.Core.List.{List, [], _∷_}
@@ -25,16 +25,16 @@ unfoldable pub restWords : List (List ℕ) → List (List ℕ)
 restWords [] = []
 restWords (w ∷ ws) = pick (ltb 11 (place w names)) (w ∷ ws) (restNamed (place w names) ws)
 
-unfoldable pub firstWord : List (List ℕ) → List ℕ
-firstWord [] = []
-firstWord (w ∷ ws) = w
-
 -- the word that can't be read; none where the line ends there, or can be read
 unfoldable pub foundIn : List ℕ → List ℕ
-foundIn line = firstWord (restWords (wordsOf line))
+foundIn line = getD (restWords (wordsOf line)) 0 []
 
--- it stands in the line from start to end
-pub record Found (line : List ℕ) (start end : ℕ) : Type 0 where
+-- the first word; none where the line has no words
+unfoldable pub firstIn : List ℕ → List ℕ
+firstIn line = getD (wordsOf line) 0 []
+
+-- a word stands in the line from start to end
+pub record Stands (line word : List ℕ) (start end : ℕ) : Type 0 where
   pub ordered : start ≤ end
   pub within : end ≤ length line
-  pub word : part line start end ≡ foundIn line
+  pub reads : part line start end ≡ word

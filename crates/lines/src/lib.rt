@@ -2,7 +2,7 @@
 ghost use mathlib.Core.Path.{_≡_};
 ghost use Rattle.lines.specs.Call.{Line};
 ghost use Rattle.lines.specs.Open.{openingOf};
-ghost use Rattle.lines.specs.Found.{Found};
+ghost use Rattle.lines.specs.Found.{Stands, foundIn, firstIn};
 use account::settings::Settings;
 use text::Word;
 
@@ -82,10 +82,18 @@ pub fn read_open(line: &[u8]) -> Opening
 
 // The word of a line that can't be read, for whoever tells of it. It ends where it starts if the line ends there, or can be read.
 pub fn found(line: &[u8]) -> Word
-    ensures { λ r. ⌜ Found (now (line .entry)) (r .start) (r .end) ⌝ }
+    ensures { λ r. ⌜ Stands (now (line .entry)) (foundIn (now (line .entry))) (r .start) (r .end) ⌝ }
 {
     let mut values = [0u64; 40];
     let mut octets = [0u8; 2048];
     let mut numbers = [0u32; 8193];
     stops::found_in(line, &mut values, &mut octets, &mut numbers)
+}
+
+// The first word of a line, which names its call. It ends where it starts if the line has no words.
+pub fn first_word(line: &[u8]) -> Word
+    ensures { λ r. ⌜ Stands (now (line .entry)) (firstIn (now (line .entry))) (r .start) (r .end) ⌝ }
+{
+    let comment = text::find(line, b'#');
+    text::word_at(&line[..comment], 0)
 }

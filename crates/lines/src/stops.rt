@@ -44,7 +44,7 @@ pub(crate) fn found_in(
     numbers: &mut [u32],
 ) -> Word
     requires { ⌜ (now values ≡ unsaid) × (2048 ≤ length (now octets)) × (8193 ≤ length (now numbers)) ⌝ }
-    ensures { λ r. ⌜ Found.Found (now (line .entry)) (r .start) (r .end) ⌝ }
+    ensures { λ r. ⌜ Found.Stands (now (line .entry)) (Found.foundIn (now (line .entry))) (r .start) (r .end) ⌝ }
 {
     let comment = text::find(line, b'#');
     let s = &line[..comment];

@@ -13,6 +13,15 @@ above-is h k l = omega arith
 pub step-is : (r number h : ℕ) → (r + h % 0x1_0000_0000) % 0x1_0000_0000 ≡ number → r < 0x1_0000_0000 → r ≡ above number h
 step-is r number h e l = omega arith
 
+-- the stretch that the code makes, by the four numbers that it works out
+pub more-is : (s : Stretch) (reading number missing step h n m : ℕ) → step ≡ above number (s .highest) → h ≡ sum (s .highest) step → n ≡ sum (s .samples) 238
+    → m ≡ sum (s .missing) missing
+    → _≡_ {A = Stretch}
+    (record { at = s .at; last = reading; first = s .first; restart = s .restart; highest = h; samples = n; missing = m })
+    (moreOf s reading number missing)
+unfolding moreOf
+more-is s reading number missing step h n m es eh en em = rw (eh, es, en, em)
+
 sum-is : (a b : ℕ) → a + b < 0x1_0000_0000_0000_0000 → sum a b ≡ a + b
 sum-is a b h = omega arith
 

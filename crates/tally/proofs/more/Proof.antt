@@ -1,8 +1,6 @@
 -- `tally::more` meets its contract. Assumes nothing.
-use mathlib.Core.Path.{_≡_}
 use native.Mathlib.Omega.{arith}
-use Rattle.tally.specs.Stretch.{above, moreOf}
-use Rattle.tally.proofs.Stretches.{step-is}
+use Rattle.tally.proofs.Stretches.{step-is, more-is}
 use borrow.Author.Needs.{needs}
 use Rattle.tally.proofs.more.Statement.{statement}
 use Rattle.tally.proofs.more.Tie as tie
@@ -26,8 +24,13 @@ wrapping-add-u64-requires-3 : tie.Need-wrapping-add-u64-requires-3
 wrapping-add-u64-requires-3 c κs = search needs
 
 returns : tie.Need-returns
-unfolding moreOf
-returns c = let a = c .before .before .before .before .before .args in let e : c .before .before .before .wrapping-sub-u32 .result ≡ above (a .number) (a .s .highest) = step-is _ (a .number) (a .s .highest) (c .before .before .before .wrapping-sub-u32 .ensures) (omega arith) in cc
+returns c =
+    let a = c .before .before .before .before .before .args in
+    more-is (a .s) (a .reading) (a .number) (a .missing) _ _ _ _
+    (step-is _ (a .number) (a .s .highest) (c .before .before .before .wrapping-sub-u32 .ensures) (omega arith))
+    (c .before .before .wrapping-add-u64 .ensures)
+    (c .before .wrapping-add-u642 .ensures)
+    (c .wrapping-add-u643 .ensures)
 
 pub more-spec : {M : Type 1} → statement M
 more-spec =
