@@ -1,43 +1,44 @@
 -- An arrival: the session tells what the book judges, and the two go on saying the same. Assumes nothing.
-use Prim.Native.Nat.{ℕ, _+_, _-_, _%_}
+use Prim.Native.Nat.{ℕ, _+_, _-_, _%_, _^_}
 use mathlib.Core.Path.{_≡_, refl, sym, _∙_, ap, subst}
 use mathlib.Core.Bool.{Bool, true, false}
 use mathlib.Core.List.{List, [], _∷_, append-nil}
 use mathlib.Core.Option.{Option, some, none}
 use native.Mathlib.Omega.{arith}
 use borrow.Author.Tests.{ltb-false}
-use Rattle.octets.proofs.Picks.{pick-either}
-use Rattle.wire.specs.Answer.{Told, gives, refused}
-use Rattle.wire.specs.Sequence.{observed}
-use Rattle.wire.specs.declared.sequence.SeqEvent.{SeqEvent}
-use Rattle.wire.specs.declared.sequence.SeqEvent.the-variants.{InOrder, Gap, Stale, Restart}
-use Rattle.account.specs.Answer.{Answer, done, heard}
-use Rattle.account.specs.Answer as Answer
-use Rattle.account.specs.declared.session.Attenuation.{Attenuation}
-use Rattle.account.specs.declared.session.Attenuation.the-variants.{Off, On}
-use Rattle.account.specs.declared.session.Session.{Session}
-use Rattle.account.specs.Rules.{used, capped, missingOf, expecting, isStale}
-use Rattle.account.specs.Routing.{Routed, iq, status, ignored, malformed, routed}
-use Rattle.account.specs.Host.{Incoming, Arrival, Step}
-use Rattle.account.specs.State.{State, left, waits, waitingIn, keeping}
-use Rattle.account.specs.Sample.{pairs}
+use Rattle.base.proofs.Picks.{pick-either}
+use Rattle.base.specs.Told.{Told, gives, refused}
+use Rattle.sequence.specs.Tracker.{past, observed}
+use Rattle.sequence.specs.declared.SeqEvent.{SeqEvent}
+use Rattle.sequence.specs.declared.SeqEvent.the-variants.{InOrder, Gap, Stale, Restart}
+use Rattle.model.specs.Answer.{Answer, done, heard, tells}
+use Rattle.model.specs.Answer as Answer
+use Rattle.model.specs.declared.session.Attenuation.{Attenuation}
+use Rattle.model.specs.declared.session.Attenuation.the-variants.{Off, On}
+use Rattle.model.specs.declared.session.Session.{Session}
+use Rattle.model.specs.Rules.{used, capped, missingOf, isStale}
+use Rattle.model.specs.Routing.{Routed, iq, status, ignored, malformed, routed}
+use Rattle.model.specs.Host.{Incoming, Arrival, Step}
+use Rattle.model.specs.State.{State, left, waits, waitingIn, keeping}
+use Rattle.model.specs.Sample.{pairs}
 use Rattle.wire.specs.Iq as Iq
-use Rattle.account.specs.Hearing.{eventOf, restartOf, leftOut, accepted}
-use Rattle.account.specs.Arrival.{told, hear, heardAs, heardIq, overload, heardStatus, oneMore, heardMalformed, arrived, atReading, route, arrival}
+use Rattle.model.specs.Hearing.{eventOf, restartOf, leftOut, accepted}
+use Rattle.model.specs.Arrival.{told, hear, heardAs, heardIq, overload, heardStatus, oneMore, heardMalformed, arrived, atLater, route, arrival}
 use Rattle.account.specs.Whole.{fits, fitsBelow, verdict}
 use Rattle.account.specs.Book.{Quiet, Came, brought, news, Book, fitIn, belowIn, limitIn, restartIn, missingIn, judged}
-use Rattle.account.specs.Ledger.{tells, Entry, samplesOf}
+use Rattle.account.specs.Ledger.{Entry, samplesOf}
 use Rattle.account.specs.Ledger as Ledger
-use Rattle.account.specs.Demand3.{Each, NearIn, Lies}
+use Rattle.base.specs.Each.{Each}
+use Rattle.account.specs.Demand3.{NearIn, Lies}
 use Rattle.account.specs.Exact.{verdictIn, Exact}
-use Rattle.account.specs.declared.settings.Settings.{Settings}
-use Rattle.account.proofs.Numbers.{next}
+use Rattle.model.specs.declared.settings.Settings.{Settings}
+use Rattle.account.proofs.Numbers.{past-count}
 use Rattle.account.proofs.Verdict.{Says, says, Rules, rules, stale-is}
 use Rattle.account.proofs.Stretches.{Lost, Right, judged-of}
-use Rattle.account.proofs.Pairs.{datagram-size, datagram-samples, none-past}
+use Rattle.model.proofs.Pairs.{datagram-size, datagram-samples, none-past}
 use Rattle.account.proofs.Same.{sentAs, waitingOf, Same, Kept, still}
-use Rattle.account.proofs.Sends.{stepped-steady}
-use Rattle.account.proofs.Observes.{tells-in, accepted-tracker, stale-tracker}
+use Rattle.model.proofs.Sends.{stepped-steady}
+use Rattle.account.proofs.Observes.{past-sent, tells-in, accepted-tracker, stale-tracker}
 
 -- ---- what an arrival misses
 
@@ -62,7 +63,7 @@ lost-of Stale restart = refl
 lost-of Restart restart = tt
 
 -- one more stale
-one-more : (o : Option ℕ) (run : ℕ) → _≡_ {A = Rattle.wire.specs.declared.sequence.SeqTracker.SeqTracker} (record { expected = (sentAs o run) .expected; «stale_run» = (sentAs o run) .«stale_run» + 1 }) (sentAs o (run + 1))
+one-more : (o : Option ℕ) (run : ℕ) → _≡_ {A = Rattle.sequence.specs.declared.SeqTracker.SeqTracker} (record { expected = (sentAs o run) .expected; «stale_run» = (sentAs o run) .«stale_run» + 1 }) (sentAs o (run + 1))
 one-more none run = refl
 one-more (some e) run = refl
 
@@ -100,13 +101,8 @@ module _ (s : Settings) (b : Book) (st : State) (n : ℕ) (h : Same s b st) (i :
     exact-of : Exact s b (Came i count) n (tells (heard ev m))
     exact-of = (refl, told ∙ missing-in (b .expected) (limitIn s b (i .now)) (b .run) n (restartIn s b i n))
 
-  -- a restart's figure is the book's
-  restart-is : restartOf (s .«sample_rate_hz») (st .session .receiver) (i .now) (i .later) (n % 0x1_0000_0000) (i .waiting) ≡ restartIn s b i n
-  unfolding restartOf
-  restart-is = rw (h .accepted, h .window, next n) refl
-
   abbrev count : ℕ
-  count = n % 0x1_0000_0000
+  count = n % 2 ^ 32
 
   abbrev seen : SeqEvent
   seen = capped (limitIn s b (i .now)) (observed (st .session .receiver .tracker) count .event)
@@ -115,6 +111,23 @@ module _ (s : Settings) (b : Book) (st : State) (n : ℕ) (h : Same s b st) (i :
     -- the event is the book's
     seen-is : seen ≡ ev
     seen-is = rw (h .tracker) (tells-in (b .expected) (limitIn s b (i .now)) (b .run) n near)
+
+    -- where it is accepted, so is the tracker
+    tracker-is : isStale ev ≡ false → observed (st .session .receiver .tracker) count .tracker ≡ past n
+    tracker-is f = accepted-tracker (st .session .receiver .tracker) (limitIn s b (i .now)) count (ap isStale seen-is ∙ f) ∙ past-count n
+
+    -- and what it misses: of a restart, by the tracker as the arrival left it
+    missing-is : missingOf ev (restartOf (s .«sample_rate_hz») (leftOut (st .session .receiver) (i .now) count) (i .now) (i .later) (i .waiting))
+        ≡ missingOf ev (restartIn s b i n)
+    unfolding missingOf restartOf leftOut
+    missing-is = go ev refl
+      where
+        go : (e : SeqEvent) → e ≡ ev → missingOf e (restartOf (s .«sample_rate_hz») (leftOut (st .session .receiver) (i .now) count) (i .now) (i .later) (i .waiting))
+            ≡ missingOf e (restartIn s b i n)
+        go InOrder q = refl
+        go (Gap k) q = refl
+        go Stale q = refl
+        go Restart q = rw (h .accepted, h .window, tracker-is (ap isStale (sym q))) refl
 
     hears : (m : ℕ) → m ≡ missingOf ev (restartIn s b i n) → Enters count (hear st i d count ev m)
     unfolding hear accepted leftOut waitingIn
@@ -148,9 +161,7 @@ module _ (s : Settings) (b : Book) (st : State) (n : ℕ) (h : Same s b st) (i :
               rw below
               (record {
                 settings = h .settings;
-                tracker =
-                    accepted-tracker (st .session .receiver .tracker) (limitIn s b (i .now)) count (ap isStale seen-is ∙ f)
-                    ∙ ap (λ (k : ℕ). expecting k) (next n);
+                tracker = tracker-is f ∙ past-sent n;
                 accepted = refl;
                 taken = h .taken;
                 window = rw (h .window) (ap (λ (k : ℕ). used (b .window) k) (exact-of m told count .1));
@@ -169,8 +180,10 @@ module _ (s : Settings) (b : Book) (st : State) (n : ℕ) (h : Same s b st) (i :
     unfolding heardAs
     heard-as =
         hears _
-        (ap (λ (x : Settings). missingOf ev (restartOf (x .«sample_rate_hz») (st .session .receiver) (i .now) (i .later) count (i .waiting))) (h .settings)
-        ∙ ap (λ (r : ℕ). missingOf ev r) restart-is)
+        (ap
+        (λ (x : Settings). missingOf ev (restartOf (x .«sample_rate_hz») (leftOut (st .session .receiver) (i .now) count) (i .now) (i .later) (i .waiting)))
+        (h .settings)
+        ∙ missing-is)
 
     enters : Enters count (heardIq st i d count)
     unfolding heardIq
@@ -215,7 +228,7 @@ module _ (s : Settings) (b : Book) (st : State) (n : ℕ) (h : Same s b st) (i :
 
   -- of the session with the later reading, what is not I/Q is nothing to the book
   abbrev later : State
-  later = atReading st (i .later)
+  later = atLater st (i .later)
 
   abbrev Mute : Step Session → Type 0
   Mute x = Fine (keeping (st .samples) x)

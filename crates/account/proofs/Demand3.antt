@@ -7,17 +7,18 @@ use mathlib.Core.List.{List, []}
 use lib.ListN.{length}
 use lib.Dec.{T}
 use lib.Ieee.{Float}
-use Rattle.octets.proofs.Picks.{pick-t}
-use Rattle.account.specs.Settings.{accepts}
-use Rattle.account.specs.Host.{Call, Begin, Pass, Arrival, Take, Close, TakeMissing, TakeDiscontinuity, TakeStalled}
-use Rattle.account.specs.State.{State, waitingIn}
-use Rattle.account.specs.Open.{freshCommon, freshReceiver, fresh, unopened, opened}
-use Rattle.account.specs.Session.{step, openedWith, session}
+use Rattle.base.proofs.Picks.{pick-t}
+use Rattle.tuning.specs.Rate.{khzOf}
+use Rattle.model.specs.Settings.{accepts}
+use Rattle.model.specs.Host.{Call, Begin, Pass, Arrival, Take, Close, TakeMissing, TakeDiscontinuity, TakeStalled}
+use Rattle.model.specs.State.{State, waitingIn}
+use Rattle.model.specs.Open.{newCommon, newReceiver, newSession, unopened, opened}
+use Rattle.model.specs.Session.{step, openedWith, session}
 use Rattle.account.specs.Book.{Book, blank}
 use Rattle.account.specs.Demand3.{Meets}
 use Rattle.account.specs.Exact.{Exact, TellsAll}
-use Rattle.account.specs.declared.settings.Settings.{Settings}
-use Rattle.account.proofs.Pairs.{none-past}
+use Rattle.model.specs.declared.settings.Settings.{Settings}
+use Rattle.model.proofs.Pairs.{none-past}
 use Rattle.account.proofs.Simulate.{meets, all-lines}
 use Rattle.account.proofs.Same.{waitingOf, Same, Kept, begin-keeps, pass-keeps, take-keeps, close-keeps, missing-keeps, discontinuity-keeps, stalled-keeps}
 use Rattle.account.proofs.Arrived.{arrival-keeps}
@@ -39,23 +40,23 @@ is-true true h = refl
 is-true false h = absurd h
 
 module _ (samples : List Float) (size : length samples ≡ 476) (s : Settings) (now : ℕ) (ok : T (accepts s)) where
-  opens : opened s now ≡ fresh s now
+  opens : opened s now ≡ newSession (khzOf (s .«sample_rate_hz»)) s now
   unfolding opened
-  opens = pick-t (accepts s) (fresh s now) unopened (is-true (accepts s) ok)
+  opens = pick-t (accepts s) (newSession (khzOf (s .«sample_rate_hz»)) s now) unopened (is-true (accepts s) ok)
 
-  fresh-same : Same s (blank now) (record { session = fresh s now; samples = samples })
-  unfolding fresh freshCommon freshReceiver
-  fresh-same = record { settings = refl; tracker = refl; accepted = refl; taken = refl; window = refl; size = size }
+  new-same : Same s (blank now) (record { session = newSession (khzOf (s .«sample_rate_hz»)) s now; samples = samples })
+  unfolding newSession newCommon newReceiver
+  new-same = record { settings = refl; tracker = refl; accepted = refl; taken = refl; window = refl; size = size }
 
   pub at-first : Same s (blank now) (openedWith samples s now)
-  at-first = rw opens fresh-same
+  at-first = rw opens new-same
 
-  fresh-waits : waitingIn (fresh s now .receiver) samples ≡ []
-  unfolding waitingIn fresh freshReceiver
-  fresh-waits = none-past 238 samples size refl
+  new-waits : waitingIn (newSession (khzOf (s .«sample_rate_hz»)) s now .receiver) samples ≡ []
+  unfolding waitingIn newSession newReceiver
+  new-waits = none-past 238 samples size refl
 
   pub none-waits : waitingOf (openedWith samples s now) ≡ []
-  none-waits = rw opens fresh-waits
+  none-waits = rw opens new-waits
 
 module _ (samples : List Float) (size : length samples ≡ 476) where
   pub demand3 : Meets (session samples)

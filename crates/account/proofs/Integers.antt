@@ -1,5 +1,5 @@
 -- Demand 3 for integers: every list of them can be moved up so, and it does not matter how far. Assumes nothing.
-use Prim.Native.Nat.{ℕ, suc, _+_, _-_, _*_, _%_, _≤_}
+use Prim.Native.Nat.{ℕ, suc, _+_, _-_, _*_, _%_, _≤_, _^_}
 use mathlib.Core.Path.{_≡_, refl, sym, _∙_}
 use mathlib.Core.List.{List, [], _∷_}
 use native.Mathlib.Omega.{arith}
@@ -10,7 +10,7 @@ use lib.Ieee.{Float}
 use lib.IntN.{ℤ, pos, negsuc, _+ℤ_}
 use borrow.Author.Tests.{le-ltb, lt-ltb, eq-eqb, ne-eqb}
 use Rattle.account.specs.Whole.{Near, fitsAbove, fitsBelow, fits}
-use Rattle.account.specs.Session.{session}
+use Rattle.model.specs.Session.{session}
 use Rattle.account.specs.Ledger.{Sent}
 use Rattle.account.specs.Integers.{Dealt, Moved, Meetsℤ}
 use Rattle.account.proofs.Numbers.{leb-is}
@@ -30,13 +30,13 @@ most [] = 0
 most (x ∷ xs) = size (x .number) + most xs
 
 natural : ℕ → ℤ → ℕ
-natural k (pos n) = n + 0x1_0000_0000 * k
-natural k (negsuc n) = 0x1_0000_0000 * k - suc n
+natural k (pos n) = n + 2 ^ 32 * k
+natural k (negsuc n) = 2 ^ 32 * k - suc n
 
-natural-is : (k : ℕ) (z : ℤ) → size z ≤ k → z +ℤ pos (0x1_0000_0000 * k) ≡ pos (natural k z)
+natural-is : (k : ℕ) (z : ℤ) → size z ≤ k → z +ℤ pos (2 ^ 32 * k) ≡ pos (natural k z)
 unfolding natural size
 natural-is k (pos n) h = refl
-natural-is k (negsuc n) h = rw (le-ltb (0x1_0000_0000 * k) (suc n) (omega arith)) refl
+natural-is k (negsuc n) h = rw (le-ltb (2 ^ 32 * k) (suc n) (omega arith)) refl
 
 sends : ℕ → List Dealt → List Sent
 sends k [] = []
@@ -61,7 +61,7 @@ ltb-shift a b s = elim (decLt a b) [ yes h ↦ lt-ltb (a + s) (b + s) (omega ari
 leb-shift : (a b s : ℕ) → leb (a + s) (b + s) ≡ leb a b
 leb-shift a b s = leb-is (a + s) (b + s) a b (λ h. omega arith) (λ h. omega arith)
 
-residue : (n k : ℕ) → (n + 0x1_0000_0000 * k) % 0x1_0000_0000 ≡ n % 0x1_0000_0000
+residue : (n k : ℕ) → (n + 2 ^ 32 * k) % 2 ^ 32 ≡ n % 2 ^ 32
 residue n k = omega arith
 
 swap : (a s b : ℕ) → a + s + b ≡ a + b + s
@@ -69,21 +69,21 @@ swap a s b = omega arith
 
 module _ (k : ℕ) where
   abbrev up : ℕ → ℕ
-  up n = n + 0x1_0000_0000 * k
+  up n = n + 2 ^ 32 * k
 
   pub below-shift : (run e n : ℕ) → fitsBelow run (up e) (up n) ≡ fitsBelow run e n
   unfolding fitsBelow
   below-shift run e n =
-      rw (residue n k, ltb-shift n e (0x1_0000_0000 * k), swap n (0x1_0000_0000 * k) 64, leb-shift e (n + 64) (0x1_0000_0000 * k))
+      rw (residue n k, ltb-shift n e (2 ^ 32 * k), swap n (2 ^ 32 * k) 64, leb-shift e (n + 64) (2 ^ 32 * k))
 
   above-shift : (lim e n : ℕ) → fitsAbove lim (up e) (up n) ≡ fitsAbove lim e n
   unfolding fitsAbove
   above-shift lim e n =
-      rw (residue n k, ltb-shift e n (0x1_0000_0000 * k), swap e (0x1_0000_0000 * k) lim, leb-shift n (e + lim) (0x1_0000_0000 * k))
+      rw (residue n k, ltb-shift e n (2 ^ 32 * k), swap e (2 ^ 32 * k) lim, leb-shift n (e + lim) (2 ^ 32 * k))
 
   pub fits-shift : (lim run e n : ℕ) → fits lim run (up e) (up n) ≡ fits lim run e n
   unfolding fits
-  fits-shift lim run e n = rw (eqb-shift n e (0x1_0000_0000 * k), above-shift lim e n, below-shift run e n)
+  fits-shift lim run e n = rw (eqb-shift n e (2 ^ 32 * k), above-shift lim e n, below-shift run e n)
 
   pub near-shift : (e n : ℕ) → Near e n → Near (up e) (up n)
   near-shift e n h = record { low = omega arith; high = omega arith }

@@ -1,5 +1,5 @@
 -- The demand's premise can always be met: every list of calls has whole numbers that lie as the demand says. Assumes nothing.
-use Prim.Native.Nat.{ℕ, _+_, _-_, _*_, _%_, _≤_, _<_}
+use Prim.Native.Nat.{ℕ, _+_, _-_, _*_, _%_, _≤_, _<_, _^_}
 use mathlib.Core.Path.{_≡_, refl, ap}
 use mathlib.Core.Bool.{Bool, true, false, cond}
 use mathlib.Core.List.{List, [], _∷_, _++_}
@@ -8,37 +8,39 @@ use native.Mathlib.Omega.{arith}
 use native.Mathlib.Numerals.{add-one}
 use lib.ListN.{length, getD}
 use Rattle.octets.proofs.Numbers.{beAt-lt}
-use Rattle.octets.proofs.Picks.{pick-either}
-use Rattle.wire.specs.Answer.{Told}
+use Rattle.base.proofs.Picks.{pick-either}
+use Rattle.base.specs.Told.{Told}
 use Rattle.wire.specs.Iq.{rows, headerTold}
-use Rattle.account.specs.Routing.{Routed, iq, status, ignored, malformed, byHeader, byOffset, routed}
-use Rattle.account.specs.Host.{Incoming, Call, Begin, Pass, Arrival, Take, Close, TakeMissing, TakeDiscontinuity, TakeStalled, Reply, Host, trace}
+use Rattle.model.specs.Routing.{Routed, iq, status, ignored, malformed, byHeader, byOffset, routed}
+use Rattle.model.specs.Host.{Incoming, Call, Begin, Pass, Arrival, Take, Close, TakeMissing, TakeDiscontinuity, TakeStalled, Reply, Host, trace}
 use Rattle.account.specs.Whole.{Near}
 use Rattle.account.specs.Book.{News, Quiet, Began, Took, Came, brought, news, Book, blank, late, noted}
-use Rattle.account.specs.Ledger.{Sent, callsOf, Tells, tells, paired, Entry, entry, ledger}
-use Rattle.account.specs.Demand3.{Each, NearIn, Lies}
+use Rattle.model.specs.Answer.{Tells, tells}
+use Rattle.account.specs.Ledger.{Sent, callsOf, paired, Entry, entry, ledger}
+use Rattle.base.specs.Each.{Each}
+use Rattle.account.specs.Demand3.{NearIn, Lies}
 use Rattle.account.specs.Numbering.{OfOctets, AllOfOctets, Numbered}
-use Rattle.account.specs.declared.sender.Sender.{Sender}
-use Rattle.account.specs.declared.sender.Sender.the-variants.{V4, V6}
-use Rattle.account.specs.declared.settings.Settings.{Settings}
+use Rattle.model.specs.declared.sender.Sender.{Sender}
+use Rattle.model.specs.declared.sender.Sender.the-variants.{V4, V6}
+use Rattle.model.specs.declared.settings.Settings.{Settings}
 use Rattle.account.proofs.Stretches.{next-is}
 
 -- the number next to e that leaves the count
 near : ℕ → ℕ → ℕ
-near e count = e - 0x8000_0000 + (count + 0x1_0000_0000 - (e - 0x8000_0000) % 0x1_0000_0000) % 0x1_0000_0000
+near e count = e - 2 ^ 31 + (count + 2 ^ 32 - (e - 2 ^ 31) % 2 ^ 32) % 2 ^ 32
 
-near-is : (e count : ℕ) → count < 0x1_0000_0000 → 0x8000_0000 ≤ e → (near e count % 0x1_0000_0000 ≡ count) × Near e (near e count) × (e ≤ near e count + 0x8000_0000)
+near-is : (e count : ℕ) → count < 2 ^ 32 → 2 ^ 31 ≤ e → (near e count % 2 ^ 32 ≡ count) × Near e (near e count) × (e ≤ near e count + 2 ^ 31)
 unfolding near
 near-is e count h k = (omega arith, record { low = omega arith; high = omega arith }, omega arith)
 
 abbrev choose : Option ℕ → ℕ → ℕ → ℕ
-choose none left c = 0x1_0000_0000 * (left + 1) + c
+choose none left c = 2 ^ 32 * (left + 1) + c
 choose (some e) left c = near e c
 
 -- e is high enough for the calls that are left
 abbrev High : Option ℕ → ℕ → Type 0
 High none left = Unit {0}
-High (some e) left = 0x8000_0000 * (left + 1) ≤ e
+High (some e) left = 2 ^ 31 * (left + 1) ≤ e
 
 -- ---- a datagram's count is below 2^32
 
@@ -49,7 +51,7 @@ countIn ignored = 0
 countIn malformed = 0
 
 abbrev Small : Routed → Type 0
-Small p = countIn p < 0x1_0000_0000
+Small p = countIn p < 2 ^ 32
 
 header-small : (octets : List ℕ) → ((k : ℕ) → getD octets k 0 < 256) → Small (byHeader (headerTold octets))
 unfolding headerTold rows
@@ -82,7 +84,7 @@ count-of i status = refl
 count-of i ignored = refl
 count-of i malformed = refl
 
-count-small : (s : Settings) (c : Call) (t : Bool) → OfOctets c → count (news s c t) < 0x1_0000_0000
+count-small : (s : Settings) (c : Call) (t : Bool) → OfOctets c → count (news s c t) < 2 ^ 32
 count-small s c true h = omega arith
 count-small s (Arrival i d) false h =
     rw (count-of i (routed (s .«radio_ip») (s .port) (i .from) (i .octets))) (routed-small (s .«radio_ip») (s .port) (i .from) (i .octets) h)
@@ -96,8 +98,8 @@ count-small s TakeStalled false h = omega arith
 
 -- ---- the number chosen lies right, and keeps what is expected high
 
-module _ (left c : ℕ) (small : c < 0x1_0000_0000) where
-  chosen : (o : Option ℕ) → High o (left + 1) → (choose o left c % 0x1_0000_0000 ≡ c) × NearIn o (choose o left c) × High (some (choose o left c + 1)) left × High o left
+module _ (left c : ℕ) (small : c < 2 ^ 32) where
+  chosen : (o : Option ℕ) → High o (left + 1) → (choose o left c % 2 ^ 32 ≡ c) × NearIn o (choose o left c) × High (some (choose o left c + 1)) left × High o left
   chosen none h = (omega arith, tt, omega arith, tt)
   chosen (some e) h = let n = near-is e c small (omega arith) in (n .0, n .1, omega (arith, n .2), omega arith)
 
@@ -112,7 +114,7 @@ each-append (x ∷ xs) ys h k = (h .0, each-append xs ys (h .1) k)
 module _ (s : Settings) where
   -- the entries of a line, numbered so, lie right, and what is expected after it is high enough
   module _ (b : Book) (left : ℕ) (high : High (b .expected) (left + 1)) where
-    fine : (w : News) (a : Tells) → count w < 0x1_0000_0000 →
+    fine : (w : News) (a : Tells) → count w < 2 ^ 32 →
         Each Lies (entry b w (choose (b .expected) left (count w)) a) × High ((noted s b w (choose (b .expected) left (count w))) .expected) left
     fine (Came i c) a small =
         let k = chosen left c small (b .expected) high in

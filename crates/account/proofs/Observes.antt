@@ -1,20 +1,25 @@
 -- The tracker after an arrival, by what the arrival is told. Assumes nothing.
-use Prim.Native.Nat.{ℕ, _+_, _%_}
+use Prim.Native.Nat.{ℕ, _+_, _%_, _^_}
 use mathlib.Core.Path.{_≡_, refl, sym, ap, _∙_}
 use mathlib.Core.Bool.{true, false}
 use mathlib.Core.Option.{Option, some, none}
 use native.Mathlib.Omega.{arith}
 use lib.Dec.{leb}
-use Rattle.octets.proofs.Picks.{pick-either}
-use Rattle.wire.specs.Sequence.{after, less, meant, judged, moved, observed}
-use Rattle.wire.specs.declared.sequence.SeqEvent.{SeqEvent}
-use Rattle.wire.specs.declared.sequence.SeqEvent.the-variants.{InOrder, Gap, Stale, Restart}
-use Rattle.wire.specs.declared.sequence.SeqTracker.{SeqTracker}
-use Rattle.account.specs.Rules.{capped, expecting, isStale}
+use Rattle.base.proofs.Picks.{pick-either}
+use Rattle.sequence.specs.Tracker.{after, past, less, meant, judged, moved, observed}
+use Rattle.sequence.specs.declared.SeqEvent.{SeqEvent}
+use Rattle.sequence.specs.declared.SeqEvent.the-variants.{InOrder, Gap, Stale, Restart}
+use Rattle.sequence.specs.declared.SeqTracker.{SeqTracker}
+use Rattle.model.specs.Rules.{capped, isStale}
 use Rattle.account.specs.Demand3.{NearIn}
 use Rattle.account.specs.Exact.{verdictIn}
 use Rattle.account.proofs.Numbers.{verdict-told}
 use Rattle.account.proofs.Same.{sentAs}
+
+-- the tracker past n is the book's, expecting n + 1
+pub past-sent : (n : ℕ) → past n ≡ sentAs (some (n + 1)) 0
+unfolding after
+past-sent n = refl
 
 moved-event : (t : SeqTracker) (seq : ℕ) (ev : SeqEvent) → moved t seq ev .event ≡ ev
 moved-event t seq InOrder = refl
@@ -23,11 +28,11 @@ moved-event t seq Stale = refl
 moved-event t seq Restart = refl
 
 -- the tracker, and the limit, tell the verdict
-pub tells-in : (o : Option ℕ) (lim run n : ℕ) → NearIn o n → capped lim (observed (sentAs o run) (n % 0x1_0000_0000) .event) ≡ verdictIn o lim run n
+pub tells-in : (o : Option ℕ) (lim run n : ℕ) → NearIn o n → capped lim (observed (sentAs o run) (n % 2 ^ 32) .event) ≡ verdictIn o lim run n
 unfolding observed capped
 tells-in none lim run n near = refl
 tells-in (some e) lim run n near =
-    ap (capped lim) (moved-event (sentAs (some e) run) (n % 0x1_0000_0000) (meant (less (n % 0x1_0000_0000) (e % 0x1_0000_0000)) run (n % 0x1_0000_0000)))
+    ap (capped lim) (moved-event (sentAs (some e) run) (n % 2 ^ 32) (meant (less (n % 2 ^ 32) (e % 2 ^ 32)) run (n % 2 ^ 32)))
     ∙ verdict-told lim run e n near
 
 module _ (t : SeqTracker) (lim seq : ℕ) where
@@ -35,7 +40,7 @@ module _ (t : SeqTracker) (lim seq : ℕ) where
   unfolding capped
   gap-not-stale k = pick-either (leb k lim) (Gap k) Restart (λ (v : SeqEvent). isStale v ≡ false) (λ _. refl) (λ _. refl)
 
-  moved-on : (ev : SeqEvent) → isStale (capped lim ev) ≡ false → moved t seq ev .tracker ≡ expecting (after seq)
+  moved-on : (ev : SeqEvent) → isStale (capped lim ev) ≡ false → moved t seq ev .tracker ≡ past seq
   unfolding capped
   moved-on InOrder h = refl
   moved-on (Gap k) h = refl
@@ -50,7 +55,7 @@ module _ (t : SeqTracker) (lim seq : ℕ) where
   stays (Gap k) h = let g = gap-not-stale k in let z : _≡_ {A = ℕ} 0 1 = cc in absurd (omega arith)
 
   -- an accepted arrival sets the expected number and empties the stale run
-  pub accepted-tracker : isStale (capped lim (observed t seq .event)) ≡ false → observed t seq .tracker ≡ expecting (after seq)
+  pub accepted-tracker : isStale (capped lim (observed t seq .event)) ≡ false → observed t seq .tracker ≡ past seq
   unfolding observed
   accepted-tracker h = moved-on (judged (t .expected) (t .«stale_run») seq) (ap (λ (v : SeqEvent). isStale (capped lim v)) (sym (moved-event t seq (judged (t .expected) (t .«stale_run») seq))) ∙ h)
 

@@ -4,18 +4,18 @@ use mathlib.Core.Path.{_≡_, refl}
 use mathlib.Core.Bool.{Bool}
 use mathlib.Core.List.{[]}
 use lib.ListN.{length}
-use Rattle.octets.proofs.Picks.{pick-either}
-use Rattle.account.specs.Sample.{pairs}
-use Rattle.account.specs.Host.{Call, Begin, Pass, Arrival, Take, Close, TakeMissing, TakeDiscontinuity, TakeStalled}
-use Rattle.account.specs.State.{State, refuse}
-use Rattle.account.specs.Refusals.{lentPackets, lentBuffer}
+use Rattle.base.proofs.Picks.{pick-either}
+use Rattle.model.specs.Sample.{pairs}
+use Rattle.model.specs.Host.{Call, Begin, Pass, Arrival, Take, Close, TakeMissing, TakeDiscontinuity, TakeStalled}
+use Rattle.model.specs.State.{State, refuse}
+use Rattle.model.specs.Refusals.{lentPackets, lentBuffer}
 use Rattle.account.specs.Book.{Book}
 use Rattle.account.specs.Ledger.{gave}
 use Rattle.account.specs.Demand3.{Meets}
 use Rattle.account.specs.Exact.{Exact}
-use Rattle.account.specs.Lists.{silence}
-use Rattle.account.specs.Wrong.{refusing}
-use Rattle.account.specs.declared.settings.Settings.{Settings}
+use Rattle.model.proofs.Lists.{silence}
+use Rattle.account.proofs.WrongHosts.{refusing}
+use Rattle.model.specs.declared.settings.Settings.{Settings}
 use Rattle.account.proofs.Simulate.{meets}
 use Rattle.account.proofs.Same.{Same, Kept, still}
 use Rattle.account.proofs.Demand3.{keeps, at-first, none-waits}

@@ -1,36 +1,37 @@
 -- The session and the book say the same of the stream, and every call but an arrival keeps that. Assumes nothing.
-use Prim.Native.Nat.{ℕ, _-_, _/_, _%_, min}
+use Prim.Native.Nat.{ℕ, _-_, _/_, _%_, min, _^_}
 use mathlib.Core.Path.{_≡_, refl, sym, ap, _∙_}
 use mathlib.Core.List.{List, [], append-nil}
 use mathlib.Core.Option.{Option, some, none}
 use native.Mathlib.Omega.{arith}
 use lib.ListN.{length}
 use lib.Ieee.{Float}
-use Rattle.octets.proofs.Picks.{pick-either}
-use Rattle.wire.specs.declared.sequence.SeqTracker.{SeqTracker}
-use Rattle.wire.specs.declared.sequence.Expected.the-variants.{Nothing, Next}
-use Rattle.account.specs.Sample.{Sample, pairs}
-use Rattle.account.specs.Parts.{with-common, with-last-reading}
-use Rattle.account.specs.Host.{Call, Begin, Pass, Take, Close, TakeMissing, TakeDiscontinuity, TakeStalled, Step}
-use Rattle.account.specs.State.{State, left, waitingIn, keeping}
-use Rattle.account.specs.Begin.{begunBy, begin}
-use Rattle.account.specs.Pass.{stallSoft, stallHard, passed, pass}
-use Rattle.account.specs.Take.{handed, handOut, takeOut}
-use Rattle.account.specs.Close.{stop, close}
-use Rattle.account.specs.Drain.{takeMissing, takeDiscontinuity, takeStalled}
+use Rattle.base.proofs.Picks.{pick-either}
+use Rattle.sequence.specs.declared.SeqTracker.{SeqTracker}
+use Rattle.sequence.specs.declared.Expected.the-variants.{Nothing, Next}
+use Rattle.model.specs.Sample.{Sample, pairs}
+use Rattle.model.specs.Parts.{with-common, with-last-reading}
+use Rattle.model.specs.Host.{Call, Begin, Pass, Take, Close, TakeMissing, TakeDiscontinuity, TakeStalled, Step}
+use Rattle.model.specs.State.{State, left, waitingIn, keeping}
+use Rattle.model.specs.Begin.{begunBy, begin}
+use Rattle.model.specs.Pass.{stallSoft, stallHard, passed, pass}
+use Rattle.model.specs.Take.{handed, handOut, takeOut}
+use Rattle.model.specs.Close.{stop, close}
+use Rattle.model.specs.Drain.{takeMissing, takeDiscontinuity, takeStalled}
 use Rattle.account.specs.Book.{Quiet, news, Book}
-use Rattle.account.specs.Ledger.{tells, gave}
+use Rattle.model.specs.Answer.{tells}
+use Rattle.account.specs.Ledger.{gave}
 use Rattle.account.specs.Exact.{Exact}
-use Rattle.account.specs.declared.session.Session.{Session}
-use Rattle.account.specs.declared.settings.Settings.{Settings}
-use Rattle.account.proofs.Pairs.{handed-out}
-use Rattle.account.proofs.Sends.{due-steady, stop-steady}
+use Rattle.model.specs.declared.session.Session.{Session}
+use Rattle.model.specs.declared.settings.Settings.{Settings}
+use Rattle.model.proofs.Pairs.{handed-out}
+use Rattle.model.proofs.Sends.{due-steady, stop-steady}
 use Rattle.account.proofs.Simulate
 
 -- the tracker that expects the book's number
 abbrev pub sentAs : Option ℕ → ℕ → SeqTracker
 sentAs none run = record { expected = Nothing; «stale_run» = run }
-sentAs (some e) run = record { expected = Next (e % 0x1_0000_0000); «stale_run» = run }
+sentAs (some e) run = record { expected = Next (e % 2 ^ 32); «stale_run» = run }
 
 abbrev pub waitingOf : State → List Sample
 waitingOf st = waitingIn (st .session .receiver) (st .samples)

@@ -4,13 +4,15 @@ use mathlib.Core.Path.{_≡_, refl, sym, _∙_, ap}
 use mathlib.Core.Bool.{Bool, true, false, cond}
 use mathlib.Core.List.{List, [], _∷_, _++_, append-nil, append-assoc}
 use mathlib.Core.Option.{none}
-use Rattle.account.specs.Sample.{Sample}
-use Rattle.account.specs.Host.{Call, Step, Host, trace, final}
+use Rattle.model.specs.Sample.{Sample}
+use Rattle.model.specs.Host.{Call, Step, Host, trace, final}
 use Rattle.account.specs.Book.{News, Quiet, Began, Took, Came, news, Book, blank, noted}
-use Rattle.account.specs.Ledger.{Sent, callsOf, Tells, tells, gave, Line, lineOf, paired, handedOut, Entry, entry, ledger, lateEntry, accepted, samplesIn, samplesOf}
-use Rattle.account.specs.Demand3.{Each, Lies, Demand3}
+use Rattle.model.specs.Answer.{Tells, tells}
+use Rattle.account.specs.Ledger.{Sent, callsOf, gave, Line, lineOf, paired, handedOut, Entry, entry, ledger, lateEntry, accepted, samplesIn, samplesOf}
+use Rattle.base.specs.Each.{Each}
+use Rattle.account.specs.Demand3.{Lies, Demand3}
 use Rattle.account.specs.Exact.{AllLines}
-use Rattle.account.specs.declared.settings.Settings.{Settings}
+use Rattle.model.specs.declared.settings.Settings.{Settings}
 use Rattle.account.proofs.Stretches.{Right, Chained, next-is, each, stretches}
 
 -- ---- lists

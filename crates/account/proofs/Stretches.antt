@@ -8,13 +8,14 @@ use mathlib.Core.Option.{Option, some, none}
 use native.Mathlib.Omega.{arith}
 use lib.ListN.{length, length-append}
 use lib.Dec.{T}
-use Rattle.wire.specs.declared.sequence.SeqEvent.{SeqEvent}
-use Rattle.wire.specs.declared.sequence.SeqEvent.the-variants.{InOrder, Gap, Stale, Restart}
+use Rattle.sequence.specs.declared.SeqEvent.{SeqEvent}
+use Rattle.sequence.specs.declared.SeqEvent.the-variants.{InOrder, Gap, Stale, Restart}
 use Rattle.account.specs.Book.{Book, limitIn, judged}
 use Rattle.account.specs.Ledger.{Entry, fitting, lateEntry, accepted, samplesIn, samplesOf, missingTold, highest}
-use Rattle.account.specs.Demand3.{Each, Judged, Stretch, Rising, Sums}
+use Rattle.base.specs.Each.{Each}
+use Rattle.account.specs.Demand3.{Judged, Stretch, Rising, Sums}
 use Rattle.account.specs.Exact.{verdictIn}
-use Rattle.account.specs.declared.settings.Settings.{Settings}
+use Rattle.model.specs.declared.settings.Settings.{Settings}
 use Rattle.account.proofs.Verdict.{Says, says, Rules, rules, restarts, stales}
 
 -- what an arrival told so misses, where that is known from the numbers

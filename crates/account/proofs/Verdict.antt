@@ -7,11 +7,11 @@ use mathlib.Core.Option.{Option, some, none}
 use native.Mathlib.Omega.{arith}
 use lib.Dec.{T, leb, ltb, eqb}
 use borrow.Author.Tests.{ltb-true, eqb-true}
-use Rattle.octets.specs.Pick.{pick}
-use Rattle.wire.specs.declared.sequence.SeqEvent.{SeqEvent}
-use Rattle.wire.specs.declared.sequence.SeqEvent.the-variants.{InOrder, Gap, Stale, Restart}
-use Rattle.account.specs.Rules.{isStale}
-use Rattle.account.specs.Whole.{fresh, fitsAbove, fitsBelow, fits, verdict}
+use Rattle.base.specs.Pick.{pick}
+use Rattle.sequence.specs.declared.SeqEvent.{SeqEvent}
+use Rattle.sequence.specs.declared.SeqEvent.the-variants.{InOrder, Gap, Stale, Restart}
+use Rattle.model.specs.Rules.{isStale}
+use Rattle.account.specs.Whole.{countNotZero, fitsAbove, fitsBelow, fits, verdict}
 use Rattle.account.specs.Book.{fitIn, belowIn}
 use Rattle.account.specs.Exact.{verdictIn}
 
@@ -25,12 +25,12 @@ and-right false b h = cc
 
 is-above : (limit e n : ℕ) → fitsAbove limit e n ≡ true → e < n
 unfolding fitsAbove
-is-above limit e n h = ltb-true e n (and-right (fresh n) (ltb e n) (and-left (fresh n && ltb e n) (leb n (e + limit)) h))
+is-above limit e n h = ltb-true e n (and-right (countNotZero n) (ltb e n) (and-left (countNotZero n && ltb e n) (leb n (e + limit)) h))
 
 is-below : (run e n : ℕ) → fitsBelow run e n ≡ true → n < e
 unfolding fitsBelow
 is-below run e n h =
-    ltb-true n e (and-right (fresh n) (ltb n e) (and-left (fresh n && ltb n e) (leb e (n + 64)) (and-left (fresh n && ltb n e && leb e (n + 64)) (leb run 6) h)))
+    ltb-true n e (and-right (countNotZero n) (ltb n e) (and-left (countNotZero n && ltb n e) (leb e (n + 64)) (and-left (countNotZero n && ltb n e && leb e (n + 64)) (leb run 6) h)))
 
 -- of an arrival told so: how its number lies to e, whether it fits, and whether below
 abbrev pub Says : ℕ → ℕ → SeqEvent → Bool → Bool → Type 0

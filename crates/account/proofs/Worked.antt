@@ -1,58 +1,84 @@
--- The worked cases of the shared rules, by computation. Assumes nothing.
+-- Worked cases of what the book makes of numbers and arrivals, by computation: of whole numbers by hand from 01, of arrivals those of
+-- model's Worked, with the Rust's own missing. Assumes nothing.
+use Prim.Native.Nat.{ℕ}
+use mathlib.Core.Bool.{Bool, true, false}
 use mathlib.Core.Path.{refl}
-use lib.Ieee.{lt, eq, ofInt, mul, div, add, sub, round}
-use Rattle.octets.specs.Pick.{pick}
-use Rattle.double.specs.Whole.{natOf, rounded, isWhole}
+use mathlib.Core.List.{List, [], _∷_}
+use mathlib.Core.Option.{some}
+use lib.Ieee.{ofInt, mul, div, add, sub, round}
+use Rattle.base.specs.Pick.{pick}
+use Rattle.base.proofs.Cases.{Case, case, Hold}
+use Rattle.double.specs.Whole.{natOf, rounded}
 use Rattle.double.specs.Seconds.{secondsOf}
-use Rattle.double.specs.Stream.{plausible, jumpLimit, restartMissing, accountTime, coveredTime}
-use Rattle.wire.specs.Search.{first}
-use Rattle.wire.specs.Rate.{rateAt, isRate, khzOf}
-use Rattle.wire.specs.Centre.{wholeCentre, belowNyquist}
-use Rattle.wire.specs.Iq.{headerTold, rows}
-use Rattle.wire.specs.Sequence as Sequence
-use Rattle.account.specs.Settings.{settingsTold}
-use Rattle.account.specs.Rules.{begun, refilled, used, elapsed, capped, datagrams, backlog, uncovered, outage, missingOf, added}
-use Rattle.account.specs.Routing.{byOffset, routed}
-use Rattle.account.specs.State.{left, waits}
-use Rattle.account.specs.Open.{freshCommon}
-use Rattle.account.specs.Hearing.{eventOf, restartOf, leftOut, accepted}
-use Rattle.account.specs.Arrival.{hear, heardAs, heardIq, arrived, arrival}
-use Rattle.account.specs.Session.{step}
-use Rattle.account.specs.Whole.{fitsAbove, fitsBelow, fits}
-use Rattle.account.specs.Worked.{timeCases, windowCases, restartCases, slotCases, routeCases, fitCases, rowCases, arrivalCases}
-use Rattle.account.proofs.Edges.{Hold}
+use Rattle.stream.specs.Elapsed.{plausible, jumpLimit, restartMissing, accountTime, coveredTime}
+use Rattle.sequence.specs.Tracker as Sequence
+use Rattle.model.specs.Rules.{elapsed, capped, datagrams, backlog, uncovered, outage}
+use Rattle.model.specs.Host.{Incoming}
+use Rattle.model.specs.declared.receiver.Window.{Window}
+use Rattle.model.specs.declared.receiver.Window.the-variants.{Shut, Open}
+use Rattle.model.proofs.Lists.{usual, iqAt, iqWith}
+use Rattle.model.proofs.Worked.{mixed}
+use Rattle.account.specs.Whole.{fits, fitsAbove, fitsBelow}
+use Rattle.account.specs.Book.{Book, missing}
 
-pub times-hold : Hold timeCases
-unfolding elapsed jumpLimit plausible natOf secondsOf add mul div ofInt accountTime
-times-hold = refl
+abbrev yes : Bool → Case Bool
+yes b = case b true
 
-pub windows-hold : Hold windowCases
-unfolding pick begun refilled used
-windows-hold = refl
+abbrev no : Bool → Case Bool
+no b = case b false
 
-pub restarts-hold : Hold restartCases
-unfolding pick elapsed jumpLimit plausible natOf secondsOf add mul div sub rounded round ofInt accountTime coveredTime restartMissing
-    backlog capped datagrams uncovered outage Sequence.observed Sequence.meant Sequence.less Sequence.after Sequence.zeroRestarts
-restarts-hold = refl
+-- ---- whole numbers: limit, stale run, e and n
 
-pub slots-hold : Hold slotCases
-unfolding added
-slots-hold = refl
-
-pub routes-hold : Hold routeCases
-unfolding pick routed byOffset headerTold rows
-routes-hold = refl
+abbrev pub fitCases : List (Case Bool)
+fitCases =
+    -- e itself, also as a multiple of 2^32
+    yes (fits 8192 7 4294967296 4294967296)
+    -- above by no more than the limit
+    ∷ yes (fits 8192 0 6 8198)
+    ∷ no (fits 8192 0 6 8199)
+    -- below by 1 to 64, after at most six such
+    ∷ yes (fits 8192 6 100 99)
+    ∷ no (fits 8192 7 100 99)
+    ∷ yes (fits 8192 0 100 36)
+    ∷ no (fits 8192 0 100 35)
+    -- a multiple of 2^32 neither above nor below
+    ∷ no (fits 8192 0 4294967290 4294967296)
+    ∷ yes (fits 8192 0 4294967290 4294967297)
+    ∷ no (fits 8192 0 4294967300 4294967296)
+    ∷ yes (fits 8192 0 4294967300 4294967297)
+    -- which of them lie below
+    ∷ no (fitsBelow 0 6 7)
+    ∷ no (fitsBelow 0 6 6)
+    ∷ yes (fitsBelow 0 6 5)
+    ∷ []
 
 pub fits-hold : Hold fitCases
 unfolding fits fitsAbove fitsBelow
 fits-hold = refl
 
-pub rows-hold : Hold rowCases
-unfolding pick settingsTold isRate rateAt first khzOf eq ofInt wholeCentre belowNyquist isWhole lt
-rows-hold = refl
+-- ---- arrivals
+
+-- a book that expects a number since the reading `accepted`, in this window
+abbrev pub bookIn : ℕ → ℕ → Window → Book
+bookIn next accepted w = record { expected = some next; run = 0; accepted = accepted; taken = 0; window = w }
+
+abbrev misses : ℕ → ℕ → Window → Incoming → ℕ → ℕ → Case ℕ
+misses next accepted w i n is = case (missing usual (bookIn next accepted w) i n) is
+
+abbrev pub arrivalCases : List (Case ℕ)
+arrivalCases =
+    -- after a pause of 2 s a gap of 8599, which only the pause allows, and one of 8600
+    misses 7 2000000000 (Open 0 238 8191) (iqAt 2000000000 8606) 8606 2046562
+    ∷ misses 7 2000000000 (Open 0 238 8191) (iqAt 2000000000 8607) 8607 95524
+    -- with more accounted for than has passed a restart misses nothing
+    ∷ misses 8608 2000000000 (Open 0 96000 8190) (iqAt 2000000000 17000) 17000 0
+    -- a restart out of a window, with a later reading
+    ∷ misses 6 0 Shut (iqWith 1000000000 3000000000 0 []) 0 47762
+    -- one in a window, of which what waits covers a part
+    ∷ misses 1 1000000000 (Open 3000000000 0 2) (iqWith 4000000000 5000000000 0 mixed) 0 94096
+    ∷ []
 
 pub arrivals-hold : Hold arrivalCases
-unfolding pick freshCommon step arrival arrived routed byOffset headerTold rows heardIq heardAs hear eventOf restartOf capped accepted leftOut used missingOf waits left
-    Sequence.observed Sequence.meant Sequence.less Sequence.after Sequence.zeroRestarts elapsed jumpLimit plausible natOf secondsOf ofInt add sub mul div
-    restartMissing rounded round outage uncovered backlog datagrams accountTime coveredTime fits fitsAbove fitsBelow
+unfolding pick Sequence.observed Sequence.meant Sequence.less Sequence.after Sequence.zeroRestarts capped elapsed jumpLimit plausible natOf secondsOf ofInt
+    add sub mul div restartMissing rounded round outage uncovered backlog datagrams accountTime coveredTime fits fitsAbove fitsBelow
 arrivals-hold = refl

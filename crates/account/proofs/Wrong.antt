@@ -1,5 +1,5 @@
 -- Hosts that demand 3 rules out, each by one list of calls. Assumes nothing.
-use Prim.Native.Nat.{ℕ, _+_, _*_, _-_, _≤_, _<_}
+use Prim.Native.Nat.{ℕ, _+_, _*_, _-_, _≤_, _<_, _^_}
 use mathlib.Core.Path.{_≡_, refl, sym, ap, _∙_}
 use mathlib.Core.Logic.{inl}
 use mathlib.Core.Option.{some}
@@ -8,45 +8,46 @@ use native.Mathlib.Omega.{arith}
 use lib.ListN.{length, take, drop, length-append, replicate}
 use lib.Dec.{T}
 use lib.Ieee.{Float, lt, eq, ofInt, mul, div, add, sub}
-use Rattle.octets.specs.Pick.{pick}
+use Rattle.base.specs.Pick.{pick}
 use Rattle.octets.specs.Written.{written}
 use Rattle.double.specs.Whole.{natOf, rounded, isWhole}
 use Rattle.double.specs.Seconds.{secondsOf}
-use Rattle.double.specs.Stream.{plausible, jumpLimit, restartMissing}
-use Rattle.wire.specs.Search.{first}
-use Rattle.wire.specs.Rate.{rateAt, isRate}
-use Rattle.wire.specs.Centre.{wholeCentre, belowNyquist}
+use Rattle.stream.specs.Elapsed.{plausible, jumpLimit, restartMissing}
+use Rattle.base.specs.Search.{first}
+use Rattle.tuning.specs.Rate.{rateAt, isRate}
+use Rattle.tuning.specs.Centre.{wholeCentre, belowNyquist}
 use Rattle.wire.specs.Iq.{headerTold, rows}
 use Rattle.wire.specs.Iq as Iq
-use Rattle.wire.specs.Sequence.{after, less, zeroRestarts, meant, observed}
-use Rattle.wire.specs.declared.sequence.SeqEvent.the-variants.{Gap, Stale, Restart}
-use Rattle.account.specs.Settings.{settingsTold, accepts}
-use Rattle.account.specs.Rules.{begun, refilled, used, elapsed, capped, missingOf, outage}
-use Rattle.account.specs.Routing.{byOffset, routed}
-use Rattle.account.specs.Sample.{Sample, pairs}
-use Rattle.account.specs.declared.settings.Settings.{Settings}
-use Rattle.account.specs.State.{left, waits, waitingIn}
-use Rattle.account.specs.Open.{freshCommon, freshReceiver, fresh, opened}
-use Rattle.account.specs.Begin.{orAt, begunBy, begin}
-use Rattle.account.specs.Hearing.{eventOf, restartOf, leftOut}
-use Rattle.account.specs.Arrival.{oneMore, heardMalformed, hear, heardAs, heardIq, arrived, arrival}
-use Rattle.account.specs.Hearing as Hearing
-use Rattle.account.specs.Take.{handed, handOut, takeOut}
-use Rattle.account.specs.Close.{stop, close}
-use Rattle.account.specs.Host.{Begin, Close}
-use Rattle.account.specs.Session.{step}
+use Rattle.sequence.specs.Tracker.{after, less, zeroRestarts, meant, observed}
+use Rattle.sequence.specs.declared.SeqEvent.the-variants.{Gap, Stale, Restart}
+use Rattle.model.specs.Settings.{settingsTold, accepts}
+use Rattle.model.specs.Rules.{begun, refilled, used, elapsed, capped, missingOf, outage}
+use Rattle.model.specs.Routing.{byOffset, routed}
+use Rattle.model.specs.Sample.{Sample, pairs}
+use Rattle.model.specs.declared.settings.Settings.{Settings}
+use Rattle.model.specs.State.{left, waits, waitingIn}
+use Rattle.model.specs.Open.{newCommon, newReceiver, newSession, opened}
+use Rattle.model.specs.Begin.{orAt, begunBy, begin}
+use Rattle.model.specs.Hearing.{eventOf, restartOf, leftOut}
+use Rattle.model.specs.Arrival.{oneMore, heardMalformed, hear, heardAs, heardIq, arrived, arrival}
+use Rattle.model.specs.Hearing as Hearing
+use Rattle.model.specs.Take.{handed, handOut, takeOut}
+use Rattle.model.specs.Close.{stop, close}
+use Rattle.model.specs.Host.{Begin, Close}
+use Rattle.model.specs.Session.{step}
 use Rattle.account.specs.Whole.{Near, fitsAbove, fitsBelow, fits}
 use Rattle.account.specs.Ledger.{Sent, Line, handedOut, Entry, accepted, samplesIn, samplesOf, missingTold, highest}
 use Rattle.account.specs.Demand3.{Agrees, Sums}
-use Rattle.account.specs.Wrong.{Refuted}
-use Rattle.account.proofs.Pairs.{pairs-count, datagram-size, datagram-samples, none-past, handed-out}
-use Rattle.account.specs.Lists.{usual, datagram, silence, plain, arrive, noise, readAt}
+use Rattle.account.proofs.WrongHosts.{Refuted}
+use Rattle.model.proofs.Pairs.{pairs-count, datagram-size, datagram-samples, none-past, handed-out}
+use Rattle.model.proofs.Lists.{usual, datagram, silence}
+use Rattle.account.proofs.Lists.{plain, arrive, noise, readAt}
 
 pub usual-accepted : T (accepts usual)
 unfolding accepts settingsTold pick isRate rateAt first eq ofInt wholeCentre belowNyquist isWhole lt
 usual-accepted = tt
 
-near : (e n : ℕ) → e ≤ n + 0x8000_0000 → n < e + 0x8000_0000 → Near e n
+near : (e n : ℕ) → e ≤ n + 2 ^ 31 → n < e + 2 ^ 31 → Near e n
 near e n l h = record { low = l; high = h }
 
 -- each arrival has 238 samples
@@ -85,7 +86,7 @@ abbrev late : (_≡_ {A = ℕ} 100 100) × Near 101 100
 late = (refl, near 101 100 (omega arith) (omega arith))
 
 pub refuted : Refuted
-unfolding pick accepts settingsTold isRate rateAt first eq ofInt wholeCentre belowNyquist isWhole lt opened fresh freshCommon freshReceiver step
+unfolding pick accepts settingsTold isRate rateAt first eq ofInt wholeCentre belowNyquist isWhole lt opened newSession newCommon newReceiver step
     begin begunBy orAt begun refilled arrival arrived routed byOffset headerTold rows heardIq heardAs hear eventOf capped observed meant less after zeroRestarts
     elapsed jumpLimit plausible natOf secondsOf add mul div waits left Hearing.accepted used missingOf takeOut handOut handed fits fitsAbove fitsBelow
     restartMissing rounded sub outage restartOf waitingIn close stop leftOut heardMalformed oneMore

@@ -1,16 +1,17 @@
 -- The book of 01, Demand 3 over a list of calls. Besides the settings and the opening reading it is told, of each call, which it
 -- is and with what arguments, but not the session, and if it was refused. Definitions only.
-use Prim.Native.Nat.{ℕ, _+_, _-_, _*_, _%_}
+use Prim.Native.Nat.{ℕ, _+_, _-_, _*_}
 use mathlib.Core.Bool.{Bool, true, false, cond}
 use mathlib.Core.Option.{Option, some, none}
-use Rattle.double.specs.Stream.{jumpLimit, restartMissing}
-use Rattle.account.specs.Rules.{begun, used, elapsed, outage}
-use Rattle.account.specs.Routing.{Routed, iq, status, ignored, malformed, routed}
-use Rattle.account.specs.Host.{Incoming, Call, Begin, Pass, Arrival, Take, Close, TakeMissing, TakeDiscontinuity, TakeStalled}
+use Rattle.stream.specs.Elapsed.{jumpLimit, restartMissing}
+use Rattle.sequence.specs.Tracker.{past}
+use Rattle.model.specs.Rules.{begun, used, elapsed, outage}
+use Rattle.model.specs.Routing.{Routed, iq, status, ignored, malformed, routed}
+use Rattle.model.specs.Host.{Incoming, Call, Begin, Pass, Arrival, Take, Close, TakeMissing, TakeDiscontinuity, TakeStalled}
 use Rattle.account.specs.Whole.{fits, fitsBelow}
-use Rattle.account.specs.declared.receiver.Window.{Window}
-use Rattle.account.specs.declared.receiver.Window.the-variants.{Shut}
-use Rattle.account.specs.declared.settings.Settings.{Settings}
+use Rattle.model.specs.declared.receiver.Window.{Window}
+use Rattle.model.specs.declared.receiver.Window.the-variants.{Shut}
+use Rattle.model.specs.declared.settings.Settings.{Settings}
 
 -- ---- what a call is to the book
 
@@ -79,7 +80,7 @@ late b n = belowIn (b .expected) (b .run) n
 -- what it misses as a restart
 abbrev pub restartIn : Settings → Book → Incoming → ℕ → ℕ
 restartIn s b i n =
-    restartMissing (outage (s .«sample_rate_hz») (b .accepted) (b .window) (i .now) (i .later) ((n + 1) % 0x1_0000_0000) (i .waiting)) (s .«sample_rate_hz»)
+    restartMissing (outage (s .«sample_rate_hz») (b .accepted) (b .window) (i .now) (i .later) (past n) (i .waiting)) (s .«sample_rate_hz»)
 
 abbrev pub missingIn : Option ℕ → Bool → ℕ → ℕ → ℕ
 missingIn none fit restart n = 0

@@ -1,24 +1,21 @@
 -- Demand 3: the account of the radio's stream agrees with the unbroken stream in whole numbers, over a whole list of calls from a
 -- session just opened. A single claim, about any host. Definitions only.
-use Prim.Native.Nat.{ℕ, _+_, _-_, _*_, _%_, _<_}
+use Prim.Native.Nat.{ℕ, _+_, _-_, _*_, _%_, _<_, _^_}
 use mathlib.Core.Path.{_≡_}
 use mathlib.Core.Logic.{_⊎_, _≢_, _↔_}
 use mathlib.Core.List.{List, [], _∷_, _++_}
 use mathlib.Core.Option.{Option, some, none}
 use lib.ListN.{length}
 use lib.Dec.{T}
-use Rattle.wire.specs.declared.sequence.SeqEvent.the-variants.{InOrder, Stale, Restart}
-use Rattle.account.specs.Settings.{accepts}
-use Rattle.account.specs.Sample.{Sample}
-use Rattle.account.specs.Host.{Reply, Host, trace, final}
+use Rattle.base.specs.Each.{Each}
+use Rattle.sequence.specs.declared.SeqEvent.the-variants.{InOrder, Stale, Restart}
+use Rattle.model.specs.Settings.{accepts}
+use Rattle.model.specs.Sample.{Sample}
+use Rattle.model.specs.Host.{Reply, Host, trace, final}
 use Rattle.account.specs.Whole.{Near}
 use Rattle.account.specs.Book.{blank}
 use Rattle.account.specs.Ledger.{Sent, callsOf, Line, paired, handedOut, Entry, ledger, fitting, lateEntry, accepted, samplesOf, missingTold, highest}
-use Rattle.account.specs.declared.settings.Settings.{Settings}
-
-abbrev pub Each : (Entry → Type 0) → List Entry → Type 0
-Each P [] = Unit {0}
-Each P (x ∷ xs) = P x × Each P xs
+use Rattle.model.specs.declared.settings.Settings.{Settings}
 
 abbrev pub NearIn : Option ℕ → ℕ → Type 0
 NearIn none n = Unit {0}
@@ -26,7 +23,7 @@ NearIn (some e) n = Near e n
 
 -- the premise: an arrival's whole number is its count modulo 2^32 and, after the first, lies from 2^31 below e to 2^31 - 1 above
 abbrev pub Lies : Entry → Type 0
-Lies x = (x .number % 0x1_0000_0000 ≡ x .count) × NearIn (x .book .expected) (x .number)
+Lies x = (x .number % 2 ^ 32 ≡ x .count) × NearIn (x .book .expected) (x .number)
 
 -- Restart is told exactly where an arrival doesn't fit, Stale exactly where it fits below e; the first is in order
 pub record Judged (s : Settings) (x : Entry) : Type 0 where

@@ -5,15 +5,17 @@ use mathlib.Core.Path.{_≡_}
 use mathlib.Core.List.{List, [], _∷_}
 use mathlib.Core.Option.{Option, some, none}
 use lib.Dec.{T}
-use Rattle.wire.specs.declared.sequence.SeqEvent.{SeqEvent}
-use Rattle.wire.specs.declared.sequence.SeqEvent.the-variants.{InOrder}
-use Rattle.account.specs.Settings.{accepts}
-use Rattle.account.specs.Host.{Host, trace}
+use Rattle.sequence.specs.declared.SeqEvent.{SeqEvent}
+use Rattle.sequence.specs.declared.SeqEvent.the-variants.{InOrder}
+use Rattle.model.specs.Settings.{accepts}
+use Rattle.model.specs.Host.{Host, trace}
 use Rattle.account.specs.Whole.{verdict}
 use Rattle.account.specs.Book.{News, Quiet, Began, Took, Came, Book, blank, limitIn, missing, noted}
-use Rattle.account.specs.Ledger.{Sent, callsOf, Tells, Line, paired, ledger}
-use Rattle.account.specs.Demand3.{Each, Lies}
-use Rattle.account.specs.declared.settings.Settings.{Settings}
+use Rattle.model.specs.Answer.{Tells}
+use Rattle.account.specs.Ledger.{Sent, callsOf, Line, paired, ledger}
+use Rattle.base.specs.Each.{Each}
+use Rattle.account.specs.Demand3.{Lies}
+use Rattle.model.specs.declared.settings.Settings.{Settings}
 
 -- the event of an arrival by the book; the first is in order
 abbrev pub verdictIn : Option ℕ → ℕ → ℕ → ℕ → SeqEvent

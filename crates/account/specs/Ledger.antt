@@ -1,16 +1,14 @@
 -- A list of calls with what they got back, as the book reads it: its arrivals, each with the book as it stood before. Definitions only.
 use Prim.Native.Nat.{ℕ, _+_, _*_, max}
-use mathlib.Core.Bool.{Bool, true, false, cond}
+use mathlib.Core.Bool.{Bool, cond}
 use mathlib.Core.List.{List, [], _∷_, _++_}
-use mathlib.Core.Option.{Option, some, none}
 use lib.ListN.{take}
 use Rattle.wire.specs.Iq as Iq
-use Rattle.wire.specs.declared.sequence.SeqEvent.{SeqEvent}
-use Rattle.account.specs.Answer.{Answer, refused, done, heard, took, slot, flag}
-use Rattle.account.specs.Sample.{Sample, pairs}
-use Rattle.account.specs.Host.{Incoming, Call, Begin, Pass, Arrival, Take, Close, TakeMissing, TakeDiscontinuity, TakeStalled, Reply}
+use Rattle.model.specs.Answer.{Tells, tells}
+use Rattle.model.specs.Sample.{Sample, pairs}
+use Rattle.model.specs.Host.{Incoming, Call, Begin, Pass, Arrival, Take, Close, TakeMissing, TakeDiscontinuity, TakeStalled, Reply}
 use Rattle.account.specs.Book.{News, Quiet, Began, Took, Came, news, Book, fit, late, noted}
-use Rattle.account.specs.declared.settings.Settings.{Settings}
+use Rattle.model.specs.declared.settings.Settings.{Settings}
 
 -- a call, with the whole number that the radio gave the datagram that it brings (any number, where it brings none)
 pub record Sent : Type 0 where
@@ -20,25 +18,6 @@ pub record Sent : Type 0 where
 abbrev pub callsOf : List Sent → List Call
 callsOf [] = []
 callsOf (c ∷ cs) = c .call ∷ callsOf cs
-
--- what an answer tells of the stream
-pub record Tells : Type 0 where
-  pub refusal : Bool
-  pub event : Option SeqEvent
-  pub missing : ℕ
-  -- how many pairs a Take handed out
-  pub handed : ℕ
-
-abbrev pub silent : Bool → ℕ → Tells
-silent r n = record { refusal = r; event = none; missing = 0; handed = n }
-
-abbrev pub tells : Answer → Tells
-tells (refused number) = silent true 0
-tells (done word) = silent false 0
-tells (heard event missing) = record { refusal = false; event = some event; missing = missing; handed = 0 }
-tells (took n) = silent false n
-tells (slot held) = silent false 0
-tells (flag stalled) = silent false 0
 
 -- the samples that a Take handed out, as its buffer holds them on return
 abbrev pub gave : Call → Reply → List Sample

@@ -3,11 +3,12 @@ use Prim.Native.Nat.{ℕ, _<_}
 use mathlib.Core.Path.{_≡_}
 use mathlib.Core.List.{List, [], _∷_}
 use lib.ListN.{getD}
-use Rattle.account.specs.Host.{Call, Begin, Pass, Arrival, Take, Close, TakeMissing, TakeDiscontinuity, TakeStalled, Host, trace}
+use Rattle.model.specs.Host.{Call, Begin, Pass, Arrival, Take, Close, TakeMissing, TakeDiscontinuity, TakeStalled, Host, trace}
 use Rattle.account.specs.Book.{blank}
 use Rattle.account.specs.Ledger.{Sent, callsOf, paired, ledger}
-use Rattle.account.specs.Demand3.{Each, Lies}
-use Rattle.account.specs.declared.settings.Settings.{Settings}
+use Rattle.base.specs.Each.{Each}
+use Rattle.account.specs.Demand3.{Lies}
+use Rattle.model.specs.declared.settings.Settings.{Settings}
 
 -- a datagram is of octets, as the code's type has it
 abbrev pub OfOctets : Call → Type 0

@@ -7,7 +7,7 @@ use native.Mathlib.Omega.{arith}
 use lib.Dec.{T-not, leb, ltb, eqb, ltb→lt}
 use lib.Ieee.Fits.{and-l}
 use borrow.Author.Tests.{eq-eqb}
-use Rattle.octets.proofs.Picks.{pick-either}
+use Rattle.base.proofs.Picks.{pick-either}
 use Rattle.attenuator.specs.Controller.{opened, runStart, heard, trips, stays, raised, overload, observed, releases, lowered, ticked}
 use Rattle.attenuator.specs.Level.{Call, observe, tick, called, Moves, Steady}
 use Rattle.attenuator.specs.declared.Timing.{Timing}

@@ -2,8 +2,8 @@
 use Prim.Native.Nat.{ℕ, _-_, _≤_, _<_}
 use mathlib.Core.Path.{_≡_, sym, ap, _∙_}
 use borrow.Author.Tests.{le-leb, lt-leb}
-use Rattle.octets.specs.Pick.{pick}
-use Rattle.octets.proofs.Picks.{pick-t, pick-f}
+use Rattle.base.specs.Pick.{pick}
+use Rattle.base.proofs.Picks.{pick-t, pick-f}
 use Rattle.attenuator.specs.Controller.{continues, orNow, runStart}
 use Rattle.attenuator.specs.declared.Moment.{Moment}
 use Rattle.attenuator.specs.declared.Moment.the-variants.{Never, At}

@@ -2,7 +2,7 @@
 use Prim.Native.Nat.{ℕ}
 use mathlib.Core.Path.{_≡_, sym, ap, _∙_}
 use mathlib.Core.Bool.{Bool, true, false}
-use Rattle.octets.proofs.Picks.{pick-t, pick-f}
+use Rattle.base.proofs.Picks.{pick-t, pick-f}
 use Rattle.attenuator.specs.Controller.{runStart, heard, trips, up, stays, overload, observed, releases, down, quieted, ticked}
 use Rattle.attenuator.specs.declared.AttenuationCause.the-variants.{Overload, Quiet}
 use Rattle.attenuator.specs.declared.AttenuationStep.the-variants.{Step}

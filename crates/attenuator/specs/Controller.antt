@@ -3,7 +3,7 @@
 use Prim.Native.Nat.{ℕ, _+_, _-_, min}
 use mathlib.Core.Bool.{Bool, false, not, _&&_}
 use lib.Dec.{leb, ltb, eqb}
-use Rattle.octets.specs.Pick.{pick}
+use Rattle.base.specs.Pick.{pick}
 use Rattle.attenuator.specs.declared.Timing.{Timing}
 use Rattle.attenuator.specs.declared.Moment.{Moment}
 use Rattle.attenuator.specs.declared.Moment.the-variants.{Never, At}

@@ -4,17 +4,17 @@ use super::output::named;
 use super::output::number;
 use super::output::put;
 use super::output::yes;
-use account::receiver::Anchor;
-use account::receiver::Receiver;
-use account::receiver::Slot;
-use account::receiver::Window;
-use account::session::Attenuation;
-use account::session::Common;
-use account::session::Session;
 use attenuator::Controller;
 use attenuator::Moment;
+use model::receiver::Anchor;
+use model::receiver::Receiver;
+use model::receiver::Slot;
+use model::receiver::Window;
+use model::session::Attenuation;
+use model::session::Common;
+use model::session::Session;
 use receiving::queue::left;
-use wire::sequence::Expected;
+use sequence::Expected;
 
 fn wide(x: u32) -> u64 {
     x as u64

@@ -1,6 +1,5 @@
 // The functions of double that a case can name. A row is counted from 0, in the order of the table.
 use super::answer::Answer;
-use double::stream;
 use double::time;
 use double::whole;
 

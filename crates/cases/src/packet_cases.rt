@@ -1,8 +1,8 @@
 // The functions of wire on octets that a case can name. A row is counted from 0, in the order of the table.
 use super::answer::Answer;
-use wire::board::BoardId;
-use wire::board::BoardInfo;
-use wire::board::FilterScheme;
+use tuning::board::BoardId;
+use tuning::board::BoardInfo;
+use tuning::board::FilterScheme;
 use wire::iq::IqAnswer;
 use wire::iq::iq_header;
 use wire::iq::parse_iq_datagram;

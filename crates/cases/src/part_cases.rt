@@ -28,7 +28,7 @@ pub(crate) fn answer(row: usize, n: [u64; 6], p: &mut [u8]) -> Answer {
         2 => attenuator_cases::usual(1),
         3 => attenuator_cases::usual(2),
         4 => stall_cases::due(n),
-        5 => stall_cases::calls(n[0], p),
+        5 => stall_cases::calls(p),
         6 => discovery_cases::request(p),
         7 => discovery_cases::reply(p),
         8 => health_cases::dropped(n[0], n[1]),

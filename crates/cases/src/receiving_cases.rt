@@ -8,13 +8,15 @@ use super::double_cases::double_of;
 use super::report_cases;
 use super::report_cases::event_of;
 use super::wire_cases::of_event;
-use account::receiver::Window;
-use account::stream::destination;
-use receiving::elapsed::capped;
-use receiving::elapsed::restart_outage;
-use receiving::elapsed::unaccounted;
-use receiving::window::begun;
-use receiving::window::used;
+use model::command::destination;
+use model::receiver::Window;
+use outage::elapsed::capped;
+use outage::elapsed::restart_outage;
+use outage::elapsed::unaccounted;
+use outage::window::begun;
+use outage::window::used;
+use sequence::Expected;
+use sequence::SeqTracker;
 
 pub(crate) const TABLE: [u8; 102] = *b"unaccounted 3o\n\
     capped 3\n\
@@ -91,13 +93,17 @@ fn outage(n: [u64; 6], p: &[u8]) -> Answer
     let mut numbers = [0u32; WAITING];
     let many = waiting(p, &mut numbers);
     let all = &numbers[..];
+    let tracker = SeqTracker {
+        expected: Expected::Next((n[4] % 4294967296) as u32),
+        stale_run: 0,
+    };
     Answer::Number(restart_outage(
         double_of(n[0]),
         n[1],
         window(p),
         n[2],
         n[3],
-        (n[4] % 4294967296) as u32,
+        tracker,
         &all[0..many],
     ))
 }

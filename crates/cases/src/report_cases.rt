@@ -5,19 +5,19 @@ use super::answer::Answer;
 use super::attenuator_cases::put_reading;
 use super::attenuator_cases::reading;
 use super::double_cases::double_of;
-use account::receiver::Anchor;
-use account::receiver::Parked;
-use account::receiver::Pending;
-use account::receiver::Reading;
-use account::receiver::Receiver;
-use account::receiver::Slot;
-use account::receiver::Window;
 use health::InputHealthCounters;
-use receiving::report::Report;
-use receiving::report::report_event;
+use model::receiver::Anchor;
+use model::receiver::Parked;
+use model::receiver::Pending;
+use model::receiver::Reading;
+use model::receiver::Receiver;
+use model::receiver::Slot;
+use model::receiver::Window;
+use outage::report::Report;
+use outage::report::report_event;
+use sequence::SeqEvent;
+use sequence::SeqTracker;
 use stall::StallEpisode;
-use wire::sequence::SeqEvent;
-use wire::sequence::SeqTracker;
 
 // Eight octets for each number. A slot has two: 1 where it holds a number, and the number.
 const TOLD: usize = 64;
@@ -81,7 +81,7 @@ fn receiver(pending: Pending) -> Receiver {
         last_valid_iq: 0,
         last_accepted_iq: 0,
         read_returned: 0,
-        stall: StallEpisode::new(0),
+        stall: StallEpisode::new(),
     }
 }
 
@@ -121,7 +121,6 @@ fn reported(n: [u64; 6], p: &[u8]) -> Report
         counts(p),
         n[3],
         n[3],
-        0,
         &waiting[0..0],
     )
 }

@@ -17,11 +17,10 @@ pub(crate) fn due(n: [u64; 6]) -> Answer {
         return Answer::Nothing;
     }
     let e = StallEpisode {
-        soft_after: n[0],
         delivering: n[1] == 1,
         pending: false,
     };
-    of_bool(e.due(n[2], n[3], n[4]))
+    of_bool(e.due(n[2], n[3], n[0], n[4]))
 }
 
 // The calls that hand out nothing tell no stall.
@@ -51,8 +50,8 @@ fn told(t: Taken) -> u8 {
 }
 
 // An octet of p is a call, and becomes what it told and left. No answer where its kind is unknown.
-pub(crate) fn calls(soft_after: u64, p: &mut [u8]) -> Answer {
-    let mut e = StallEpisode::new(soft_after);
+pub(crate) fn calls(p: &mut [u8]) -> Answer {
+    let mut e = StallEpisode::new();
     let mut i = 0;
     while i < p.len() {
         let kind = p[i];

@@ -2,17 +2,17 @@
 use super::answer::Answer;
 use super::double_cases::double_of;
 use super::double_cases::of_bool;
-use wire::alex::alex_words;
-use wire::board::BoardId;
-use wire::board::FilterScheme;
-use wire::board::board_info;
-use wire::phase::phase_word;
-use wire::rate::RateAnswer;
-use wire::rate::rate_khz;
-use wire::sequence::Expected;
-use wire::sequence::Observed;
-use wire::sequence::SeqEvent;
-use wire::sequence::SeqTracker;
+use sequence::Expected;
+use sequence::Observed;
+use sequence::SeqEvent;
+use sequence::SeqTracker;
+use tuning::alex::alex_words;
+use tuning::board::BoardId;
+use tuning::board::FilterScheme;
+use tuning::board::board_info;
+use tuning::phase::phase_word;
+use tuning::rate::RateAnswer;
+use tuning::rate::rate_khz;
 use wire::status::adc0_overload;
 
 // The four of observe are given whether a number is expected, that number, the stale run and the arrival's number.

@@ -8,10 +8,10 @@ use lib.Dec.{leb, eqb, leb→le, eqb→eq}
 use lib.Ieee.Fits.{and-l, and-r}
 use native.Mathlib.Omega.{arith}
 use borrow.Author.Tests.{eqb-true, le-leb, lt-leb, ne-eqb, not-true, not-false}
-use Rattle.octets.specs.Pick.{pick}
+use Rattle.base.specs.Pick.{pick}
 use Rattle.octets.specs.Number.{beAt}
-use Rattle.octets.proofs.Picks.{pick-t, pick-f}
-use Rattle.wire.specs.Answer.{Told, gives, refused}
+use Rattle.base.proofs.Picks.{pick-t, pick-f}
+use Rattle.base.specs.Told.{Told, gives, refused}
 use Rattle.discovery.specs.Reply.{Reply, statusNumber, replyAnswer, toldOf, noReply, isStatus, checked, isP1, isP2}
 use Rattle.discovery.specs.declared.DiscoveryStatus.{DiscoveryStatus}
 use Rattle.discovery.specs.declared.DiscoveryStatus.the-variants.{Available, InUse}

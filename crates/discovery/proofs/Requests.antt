@@ -8,7 +8,7 @@ use lib.Ieee.Fits.{and-i}
 use native.Mathlib.Omega.{arith}
 use borrow.Author.Tests.{leb-false}
 use Rattle.octets.specs.Number.{beAt}
-use Rattle.octets.specs.Packet.{Each}
+use Rattle.base.specs.Each.{Each}
 use Rattle.octets.proofs.Packets.{length-packet, read-exact, unnamed}
 use Rattle.discovery.specs.Request.{requestFields, requestPacket}
 

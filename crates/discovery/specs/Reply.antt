@@ -4,10 +4,10 @@ use mathlib.Core.Bool.{Bool, _&&_, _||_}
 use mathlib.Core.List.{List, [], _∷_}
 use lib.ListN.{length, getD, take, drop}
 use lib.Dec.{leb, eqb}
-use Rattle.octets.specs.Pick.{pick}
+use Rattle.base.specs.Pick.{pick}
 use Rattle.octets.specs.Number.{beAt}
 use Rattle.octets.specs.Packet.{zeros}
-use Rattle.wire.specs.Answer.{Told, gives, refused}
+use Rattle.base.specs.Told.{Told, gives, refused}
 use Rattle.discovery.specs.declared.DiscoveryStatus.{DiscoveryStatus}
 use Rattle.discovery.specs.declared.DiscoveryStatus.the-variants.{Available, InUse}
 use Rattle.discovery.specs.declared.ReplyAnswer.{ReplyAnswer}

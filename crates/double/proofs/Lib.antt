@@ -13,6 +13,5 @@ pub mod Floors
 pub mod Rounded
 pub mod Values
 pub mod Bounds
-pub mod Limits
+pub mod Times
 pub mod Monotone
-pub mod Edges

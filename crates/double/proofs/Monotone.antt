@@ -1,4 +1,4 @@
--- What rises with a double, with an elapsed time or with a count: none of the readings ever falls. Assumes nothing.
+-- What rises with a double, or with a time: none of the readings ever falls. Assumes nothing.
 use mathlib.Core.Path.{_≡_, refl, sym, ap, _∙_, subst₂}
 use Prim.Native.Nat.{ℕ, _+_, _-_, _*_, _/_, _%_, _^_, _≤_, _<_, min}
 use native.Mathlib.Nat.{le-trans, le-of-eq, mul-one, mul-comm, mul-assoc, mul-right-comm, mul-mul-mul-comm, mul-pos, add-mul, mul-le-mul-right, zero-lt-suc, lt-of-le-of-lt, add-le-add, one-mul, suc-mul}
@@ -15,17 +15,14 @@ use lib.Ieee.Back.{round-whole}
 use lib.Ieee.Scale.{round-same}
 use lib.Ieee.Positive.{num, den, den-pos, positive, own-value, value-pos}
 use lib.Ieee.Order.{round-mono}
-use Rattle.double.specs.Whole.{most, natOf, ceilAt, ceilOf, roundAt}
-use Rattle.double.specs.Stream.{perDatagram, slack, plausible, jumpLimit, restartMissing, accountTime, coveredTime}
-use Rattle.double.proofs.Fractions.{Rising, ceil-rising, round-rising, nanos-rising}
-use Rattle.double.proofs.Wholes.{ceil-zero}
-use Rattle.double.proofs.Nanos.{nanos-zero}
+use Rattle.double.specs.Whole.{most, natOf}
+use Rattle.double.proofs.Fractions.{Rising}
 use Rattle.double.proofs.Bounds.{UpTo, le-cross, at-most, plain-up-to}
 use Rattle.double.proofs.Zeros.{factor-zero}
 use Rattle.double.proofs.Plain.{Plain, plain-two, of-value, own-fraction}
 use Rattle.double.proofs.Values.{mul-of-values, div-of-values}
-use Rattle.double.proofs.Limits.{fraction-up-to, count-up-to, datagrams-up-to, seconds-up-to, rate-up-to, product-up-to, samples-up-to, restart-plain}
-use Rattle.double.specs.Seconds.{secondsOf, giga, nanosAt, nanosOf}
+use Rattle.double.specs.Seconds.{secondsOf, giga}
+use Rattle.double.proofs.Times.{count-up-to, fraction-up-to}
 
 -- ---- the whole numbers near a double
 capped : (v w : ℕ) → v ≤ w → min v most ≤ min w most
@@ -55,7 +52,7 @@ nat-rising g z r (fin false m e) (fin true n d) h =
 nat-rising g z r (fin false m e) (fin false n d) h = capped (g (m * up e) (down e)) (g (n * up d) (down d)) (r (m * up e) (down e) (n * up d) (down d) (down-pos e) (down-pos d) (le-cross (m * up e * down d) (n * up d * down e) h))
 
 -- ---- operations on what is finite and not negative
-le-fraction : (x y : Float) → Plain x → Plain y → T (le x y) → num x * den y ≤ num y * den x
+pub le-fraction : (x y : Float) → Plain x → Plain y → T (le x y) → num x * den y ≤ num y * den x
 unfolding le
 le-fraction x y p q = plain-two (λ (x y : Float). T (le x y) → num x * den y ≤ num y * den x) (λ m e n d. le-cross (m * up e * down d) (n * up d * down e)) x y p q
 
@@ -85,7 +82,7 @@ module _ (x y z : Float) (p : Plain x) (q : Plain y) (h : T (le x y)) where
       scaled : (a i g n : ℕ) → a * i * (g * n) ≡ a * g * (n * i)
       scaled a i g n = mul-mul-mul-comm a i g n ∙ ap (λ (z : ℕ). a * g * z) (mul-comm i n)
 
-plain-nat : (n : ℕ) → n ≤ most → Plain (ofInt binary64 (pos n))
+pub plain-nat : (n : ℕ) → n ≤ most → Plain (ofInt binary64 (pos n))
 plain-nat n h = plain-up-to (ofInt binary64 (pos n)) 18446744073709551616 (count-up-to n h)
 
 pub of-nat-rising : (n k : ℕ) → n ≤ k → T (le (ofInt binary64 (pos n)) (ofInt binary64 (pos k)))
@@ -164,69 +161,3 @@ seconds-rising a b h l =
           div-rising (ofInt binary64 (pos (a % 1000000000))) (ofInt binary64 (pos (b % 1000000000))) giga (rest a) (rest b)
               (of-nat-rising (a % 1000000000) (b % 1000000000) (left a b h same)) tt,
         )
-
--- ---- the stream's figures, with elapsed time
-module _ (a b : ℕ) (rate : Float) (h : a ≤ b) (l : b < 2 ^ 64) where
-  first : a < 2 ^ 64
-  first = lt-of-le-of-lt h l
-
-  plain-seconds : (ns : ℕ) → ns < 2 ^ 64 → Plain (secondsOf ns)
-  plain-seconds ns h = plain-up-to (secondsOf ns) 18446744074 (seconds-up-to ns h)
-
-  -- at the same factor
-  timed : (q : Float) → Plain q → T (le (mul binary64 (secondsOf a) q) (mul binary64 (secondsOf b) q))
-  timed q Q = mul-rising (secondsOf a) (secondsOf b) q (plain-seconds a first) (plain-seconds b l) (seconds-rising a b h l) Q
-
-  pub jump-rising : UpTo rate 2097152 → jumpLimit a rate ≤ jumpLimit b rate
-  unfolding jumpLimit plausible
-  jump-rising r =
-      let q = div binary64 rate perDatagram in
-      added (ceilOf (plausible a rate)) (ceilOf (plausible b rate))
-      (nat-rising ceilAt ceil-zero ceil-rising (plausible a rate) (plausible b rate)
-      (mul-rising (mul binary64 (secondsOf a) q) (mul binary64 (secondsOf b) q) slack (plain-product a first) (plain-product b l) (timed q (plain-up-to q 8812 (rate-up-to rate r))) refl))
-    where
-      added : (v w : ℕ) → v ≤ w → min (v + 8192) most ≤ min (w + 8192) most
-      added v w h = omega arith
-
-      plain-product : (ns : ℕ) → ns < 2 ^ 64 → Plain (mul binary64 (secondsOf ns) (div binary64 rate perDatagram))
-      plain-product ns k = plain-up-to (mul binary64 (secondsOf ns) (div binary64 rate perDatagram)) 162552708780088 (product-up-to ns rate k r)
-
-  pub restart-rising : UpTo rate 488281 → restartMissing a rate ≤ restartMissing b rate
-  restart-rising r =
-      let x = mul binary64 (secondsOf a) rate in
-      let y = mul binary64 (secondsOf b) rate in
-      le-trans (le-of-eq (restart-plain a rate first r))
-      (le-trans (less (roundAt (num x) (den x)) (roundAt (num y) (den y))
-      (round-rising (num x) (den x) (num y) (den y) (den-pos x) (den-pos y)
-      (le-fraction x y (plain-samples a first) (plain-samples b l) (timed rate (plain-up-to rate 488281 r)))))
-      (le-of-eq (sym (restart-plain b rate l r))))
-    where
-      less : (v w : ℕ) → v ≤ w → v - 238 ≤ w - 238
-      less v w h = omega arith
-
-      plain-samples : (ns : ℕ) → ns < 2 ^ 64 → Plain (mul binary64 (secondsOf ns) rate)
-      plain-samples ns k = plain-up-to (mul binary64 (secondsOf ns) rate) 9007194643196794 (samples-up-to ns rate k r)
-
--- ---- the times, with a count, at every rate above 0
-module _ (n k : ℕ) (rate : Float) (h : n ≤ k) (l : k ≤ most) (p : T (positive rate)) where
-  nanos-up : (x y : Float) → T (le x y) → nanosOf x ≤ nanosOf y
-  nanos-up x y = nat-rising nanosAt nanos-zero nanos-rising x y
-
-  low : n ≤ most
-  low = le-trans h l
-
-  pub account-rising : accountTime n rate ≤ accountTime k rate
-  unfolding accountTime
-  account-rising =
-      let x = ofInt binary64 (pos n) in
-      let y = ofInt binary64 (pos k) in
-      nanos-up (div binary64 x rate) (div binary64 y rate) (div-rising x y rate (plain-nat n low) (plain-nat k l) (of-nat-rising n k h) p)
-
-  pub covered-rising : coveredTime n rate ≤ coveredTime k rate
-  unfolding coveredTime
-  covered-rising =
-      let x = mul binary64 (ofInt binary64 (pos n)) perDatagram in
-      let y = mul binary64 (ofInt binary64 (pos k)) perDatagram in
-      nanos-up (div binary64 x rate) (div binary64 y rate)
-      (div-rising x y rate (plain-up-to x 4390325089542873284608 (datagrams-up-to n low)) (plain-up-to y 4390325089542873284608 (datagrams-up-to k l))
-      (mul-rising (ofInt binary64 (pos n)) (ofInt binary64 (pos k)) perDatagram (plain-nat n low) (plain-nat k l) (of-nat-rising n k h) refl) p)

@@ -1,5 +1,4 @@
 -- The definitions that the contracts of `double` cite, and those of the crates above it.
 pub mod Whole
 pub mod Seconds
-pub mod Stream
 pub mod Parts

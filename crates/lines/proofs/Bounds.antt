@@ -7,13 +7,13 @@ use native.Mathlib.Omega.{arith}
 use borrow.Author.Tests.{leb-true, leb-false, eqb-true}
 use lib.Dec.{leb, ltb}
 use lib.ListN.{length, getD, set, getD-replicate}
-use Rattle.octets.specs.Pick.{pick}
-use Rattle.octets.proofs.Picks.{pick-either}
+use Rattle.base.specs.Pick.{pick}
+use Rattle.base.proofs.Picks.{pick-either}
 use Rattle.text.specs.declared.Spelt.{Spelt}
 use Rattle.text.specs.declared.Spelt.the-variants.{Number, Nothing}
 use Rattle.lines.specs.declared.option.Took.{Took}
 use Rattle.lines.specs.declared.option.Took.the-variants.{Taken, Unknown, Unreadable}
-use Rattle.lines.specs.Value.{given, upTo}
+use Rattle.values.specs.Value.{given, upTo}
 use Rattle.lines.specs.Argument.{form, most, argumentAs, argument, argumentValues}
 use Rattle.lines.specs.Option.{spellings, limits, speltAs, said, keyAt, valueAt, equalsIn, valueOf, tookKey, took, valuesKey, valuesAfter, andThen, optionsTook, optionsValues}
 use Rattle.lines.specs.Call.{unsaid, orElse, kinds, buffers, addressOf, portOf, countOf, placesOf, callOf, Small, Fit}

@@ -6,8 +6,8 @@ use native.Mathlib.Omega.{arith}
 use borrow.Author.Tests.{lt-ltb, le-ltb, eq-eqb, ne-eqb}
 use lib.Dec.{eqb}
 use lib.ListN.{length, take, drop, getD, drop-of-length-le}
-use Rattle.octets.specs.Pick.{pick}
-use Rattle.octets.proofs.Picks.{pick-t, pick-f}
+use Rattle.base.specs.Pick.{pick}
+use Rattle.base.proofs.Picks.{pick-t, pick-f}
 use Rattle.octets.proofs.Writes.{stores, stores-written, written-front}
 use Rattle.text.specs.Run.{run, other}
 use Rattle.text.specs.Name.{ascii, place}

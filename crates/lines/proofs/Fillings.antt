@@ -11,7 +11,7 @@ use Rattle.text.specs.Split.{words, part, WordAt}
 use Rattle.text.specs.declared.Spelt.the-variants.{Number, Nothing}
 use Rattle.text.proofs.Splits.{no-word, one-word}
 use Rattle.lines.specs.Argument.{argument, octetsAs, unread, argumentValues, argumentOctets, argumentsRest, Arguments}
-use Rattle.lines.proofs.Values.{given-no, given-yes}
+use Rattle.values.proofs.Values.{given-no, given-yes}
 
 -- the first j words of the form are read, and have left m and n
 pub record Filling (ts s l d : List ℕ) (start at j : ℕ) (m n : List ℕ) : Type 0 where

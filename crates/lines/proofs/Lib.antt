@@ -1,9 +1,4 @@
 -- The laws of `lines`, for its own proofs: a file imports only what stands above it here.
-pub mod Values
-pub mod Addresses
-pub mod Hexes
-pub mod Spans
-pub mod Datagrams
 pub mod Options
 pub mod Forms
 pub mod Fillings

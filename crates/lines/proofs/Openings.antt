@@ -9,7 +9,7 @@ use lib.Dec.{T}
 use lib.Ieee.{Float, nan, inf, fin, binary64, ofInt, ofBits, toBits, isNan, nanBits, div, round}
 use lib.Ieee.Bits.{nanBits-is, nanBits-above}
 use lib.ListN.{length, take, drop}
-use Rattle.octets.proofs.Picks.{pick-t, pick-f}
+use Rattle.base.proofs.Picks.{pick-t, pick-f}
 use Rattle.text.specs.Run.{run, other}
 use Rattle.text.specs.Name.{place}
 use Rattle.text.specs.Split.{words, part, WordAt}

@@ -7,8 +7,7 @@ use borrow.Author.Tests.{lt-ltb, le-ltb, le-leb, lt-leb, eq-eqb, ne-eqb}
 use mathlib.Core.Bool.{false}
 use lib.Dec.{eqb}
 use lib.ListN.{length, drop, getD, set}
-use Rattle.octets.proofs.Picks.{pick-t, pick-f}
-use Rattle.text.specs.Run.{run}
+use Rattle.base.proofs.Picks.{pick-t, pick-f}
 use Rattle.text.specs.Name.{ascii, named}
 use Rattle.text.specs.Split.{parts, notEmpty, blank, grown, words, part, WordAt}
 use Rattle.text.specs.declared.Spelt.the-variants.{Number, Nothing}
@@ -17,7 +16,7 @@ use Rattle.lines.specs.declared.option.Took.{Took}
 use Rattle.lines.specs.declared.option.Took.the-variants.{Taken, Unknown, Unreadable}
 use Rattle.lines.specs.Option as Option
 use Rattle.lines.specs.Option.{keyAt, valueAt, equalsIn, tookKey, valuesKey, took, valuesAfter, numbersAfter, valueOf, numbersFor, Stepped, andThen, optionsTook, optionsValues, optionsNumbers, stopped, optionsRest, Ran, Stopped}
-use Rattle.lines.proofs.Values.{given-no, given-yes}
+use Rattle.values.proofs.Values.{given-no, given-yes}
 
 pub key-names : words (ascii "at receivers centres rate centre port radio board attenuation soft hard window malformed buffer waiting length bits samples") ≡ Option.keys
 unfolding words parts notEmpty blank grown

@@ -4,14 +4,14 @@ use mathlib.Core.Path.{_≡_}
 use mathlib.Core.List.{List, [], _∷_}
 use lib.Dec.{eqb}
 use lib.ListN.{length, drop, getD, set}
-use Rattle.octets.specs.Pick.{pick}
+use Rattle.base.specs.Pick.{pick}
 use Rattle.octets.specs.Written.{written}
 use Rattle.text.specs.Name.{named}
 use Rattle.text.specs.Number.{digitsOf}
 use Rattle.text.specs.Split.{words}
 use Rattle.text.specs.declared.Spelt.{Spelt}
-use Rattle.lines.specs.Value.{given, upTo, reading, sender}
-use Rattle.lines.specs.Octets.{octetsOf, octetCount}
+use Rattle.values.specs.Value.{given, upTo, reading, sender}
+use Rattle.values.specs.Octets.{octetsOf, octetCount}
 
 -- a call is its place here
 abbrev pub names : List (List ℕ)

@@ -4,7 +4,7 @@ use mathlib.Core.Path.{_≡_}
 use mathlib.Core.List.{List, [], _∷_}
 use lib.Dec.{ltb, eqb}
 use lib.ListN.{length, take, drop, getD, replicate}
-use Rattle.octets.specs.Pick.{pick}
+use Rattle.base.specs.Pick.{pick}
 use Rattle.octets.specs.Written.{written}
 use Rattle.text.specs.Run.{run, other}
 use Rattle.text.specs.Name.{place}
@@ -17,7 +17,7 @@ use Rattle.lines.specs.declared.option.Took.{Took}
 use Rattle.lines.specs.declared.option.Took.the-variants.{Taken, Unknown, Unreadable}
 use Rattle.lines.specs.Argument.{names, form, unread, argumentValues, argumentOctets}
 use Rattle.lines.specs.Option.{said, optionsTook, optionsValues, optionsNumbers}
-use Rattle.lines.specs.Datagram.{iqOctets, statusOctets}
+use Rattle.values.specs.Datagram.{iqOctets, statusOctets}
 
 -- ---- what the line is
 

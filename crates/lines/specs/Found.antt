@@ -4,7 +4,7 @@ use mathlib.Core.Path.{_≡_}
 use mathlib.Core.List.{List, [], _∷_}
 use lib.Dec.{ltb, eqb}
 use lib.ListN.{length, getD}
-use Rattle.octets.specs.Pick.{pick}
+use Rattle.base.specs.Pick.{pick}
 use Rattle.text.specs.Name.{place}
 use Rattle.text.specs.Split.{part}
 use Rattle.lines.specs.Argument.{names, form, unread, argumentsRest}

@@ -1,8 +1,4 @@
 -- The definitions that the contracts of `lines` cite: docs/CALLS.md, in its order.
-pub mod Value
-pub mod Octets
-pub mod Waiting
-pub mod Datagram
 pub mod Option
 pub mod Argument
 pub mod Call

@@ -5,14 +5,14 @@ use lib.Dec.{ltb, eqb}
 use lib.IntN.{pos}
 use lib.Ieee.{Float, binary64, ofInt, ofBits, toBits}
 use lib.ListN.{length, getD}
-use Rattle.octets.specs.Pick.{pick}
+use Rattle.base.specs.Pick.{pick}
 use Rattle.text.specs.Name.{place}
-use Rattle.wire.specs.Board.{boardInfo}
-use Rattle.wire.specs.declared.board.BoardId.{BoardId}
-use Rattle.wire.specs.declared.board.BoardId.the-variants.{Skipped, Number}
-use Rattle.account.specs.declared.settings.Settings.{Settings}
-use Rattle.account.specs.declared.settings.AttenuationChoice.{AttenuationChoice}
-use Rattle.account.specs.declared.settings.AttenuationChoice.the-variants.{Off, On, Unsaid}
+use Rattle.tuning.specs.Board.{boardInfo}
+use Rattle.tuning.specs.declared.board.BoardId.{BoardId}
+use Rattle.tuning.specs.declared.board.BoardId.the-variants.{Skipped, Number}
+use Rattle.model.specs.declared.settings.Settings.{Settings}
+use Rattle.model.specs.declared.settings.AttenuationChoice.{AttenuationChoice}
+use Rattle.model.specs.declared.settings.AttenuationChoice.the-variants.{Off, On, Unsaid}
 use Rattle.lines.specs.declared.Expected.{Expected}
 use Rattle.lines.specs.declared.Expected.the-variants as Expected
 use Rattle.lines.specs.declared.Read.the-variants as Read

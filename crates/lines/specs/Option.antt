@@ -5,7 +5,7 @@ use mathlib.Core.Bool.{Bool}
 use mathlib.Core.List.{List, [], _∷_}
 use lib.Dec.{ltb, leb, eqb}
 use lib.ListN.{length, take, drop, getD, set}
-use Rattle.octets.specs.Pick.{pick}
+use Rattle.base.specs.Pick.{pick}
 use Rattle.octets.specs.Written.{written}
 use Rattle.text.specs.Run.{run, other}
 use Rattle.text.specs.Name.{ascii, named, place, same}
@@ -15,8 +15,8 @@ use Rattle.text.specs.declared.Spelt.{Spelt}
 use Rattle.text.specs.declared.Spelt.the-variants.{Number}
 use Rattle.lines.specs.declared.option.Took.{Took}
 use Rattle.lines.specs.declared.option.Took.the-variants.{Taken, Unknown, Unreadable}
-use Rattle.lines.specs.Value.{given, upTo, number, reading, double, ipv4}
-use Rattle.lines.specs.Waiting.{waitingCount, waitingNumbers}
+use Rattle.values.specs.Value.{given, upTo, number, reading, double, ipv4}
+use Rattle.values.specs.Waiting.{waitingCount, waitingNumbers}
 
 -- a key is its place here: those of `open`, then those of the calls
 abbrev pub keys : List (List ℕ)

@@ -5,11 +5,11 @@ ghost use lib.ListN.{length, drop, getD};
 ghost use Rattle.text.specs.Split.{words};
 ghost use Rattle.text.specs.declared.Spelt.the-variants.{Number};
 ghost use Rattle.lines.specs.Argument as Argument;
-use super::address::sender;
-use super::hexadecimal::octets;
-use super::reading::reading;
-use super::reading::up_to;
 use text::Spelt;
+use values::address::sender;
+use values::hexadecimal::octets;
+use values::reading::reading;
+use values::reading::up_to;
 
 // How many words a call's form has, and what the first to the fourth are (specs/Argument).
 const COUNTS: [usize; 12] = [1, 1, 3, 3, 4, 2, 0, 0, 0, 0, 0, 0];

@@ -8,10 +8,10 @@ use super::Expected;
 use super::LONGEST;
 use super::Read;
 use super::argument::arguments;
-use super::datagram::put_iq;
-use super::datagram::put_status;
 use super::option::Took;
 use super::option::options;
+use values::datagram::put_iq;
+use values::datagram::put_status;
 
 // A call is its place here.
 pub(crate) const NAMES: [u8; 81] =

@@ -3,19 +3,14 @@ ghost use mathlib.Core.Path.{_≡_};
 ghost use Rattle.lines.specs.Call.{Line};
 ghost use Rattle.lines.specs.Open.{openingOf};
 ghost use Rattle.lines.specs.Found.{Stands, foundIn, firstIn};
-use account::settings::Settings;
+use model::settings::Settings;
 use text::Word;
 
-mod address;
 mod argument;
 mod call;
-mod datagram;
-mod hexadecimal;
 mod open;
 pub mod option;
-mod reading;
 mod stops;
-mod waiting;
 
 // The most octets of a line: a longer one is not read.
 pub const LONGEST: usize = 100000;

@@ -4,7 +4,7 @@ ghost use Prim.Native.Nat.{_≤_, _<_};
 ghost use lib.Ieee.{binary64, ofBits};
 ghost use lib.ListN.{length, drop};
 ghost use Rattle.text.specs.Split.{words};
-ghost use Rattle.wire.specs.Board.{boardInfo};
+ghost use Rattle.tuning.specs.Board.{boardInfo};
 ghost use Rattle.lines.specs.Call.{unsaid};
 ghost use Rattle.lines.specs.Open as Open;
 use super::Expected;
@@ -15,11 +15,11 @@ use super::call::NAMES;
 use super::call::or_else;
 use super::option::Took;
 use super::option::options;
-use account::settings::AttenuationChoice;
-use account::settings::Settings;
-use wire::board::BoardId;
-use wire::board::BoardInfo;
-use wire::board::board_info;
+use model::settings::AttenuationChoice;
+use model::settings::Settings;
+use tuning::board::BoardId;
+use tuning::board::BoardInfo;
+use tuning::board::board_info;
 
 // 48000 and 7000000 as doubles.
 const RATE: u64 = 4676829883349860352;

@@ -6,13 +6,13 @@ ghost use Rattle.text.specs.Split.{words};
 ghost use Rattle.text.specs.declared.Spelt.the-variants.{Number};
 ghost use Rattle.lines.specs.Option as Option;
 ghost use Rattle.lines.specs.declared.option.Took.the-variants.{Taken};
-use super::address::ipv4;
-use super::reading::double;
-use super::reading::number;
-use super::reading::reading;
-use super::reading::up_to;
-use super::waiting::waiting;
 use text::Spelt;
+use values::address::ipv4;
+use values::reading::double;
+use values::reading::number;
+use values::reading::reading;
+use values::reading::up_to;
+use values::waiting::waiting;
 
 // A key is its place here: those of `open`, then those of the calls.
 pub const KEYS: [u8; 123] =

@@ -1,5 +1,4 @@
 -- The laws of `octets`, for its own proofs and for the crates above it: a file imports only what stands above it here.
-pub mod Picks
 pub mod Tables
 pub mod Writes
 pub mod Puts

@@ -10,9 +10,10 @@ use lib.Ieee.Fits.{and-l, and-r}
 use borrow.Author.Fill.{fill-more}
 use native.Mathlib.Nat.{add-zero, mod-eq-of-lt}
 use native.Mathlib.Omega.{arith}
+use Rattle.base.specs.Each.{Each}
 use Rattle.octets.specs.Written.{written}
 use Rattle.octets.specs.Number.{be, beAt}
-use Rattle.octets.specs.Packet.{zeros, Field, stored, packet, Each, within, outside, apart}
+use Rattle.octets.specs.Packet.{zeros, Field, stored, packet, within, outside, apart}
 use Rattle.octets.proofs.Writes.{set-be, written-front, written-append, length-written, getD-written-out}
 use Rattle.octets.proofs.Numbers.{length-be, beAt-ext, read-same}
 

@@ -1,5 +1,4 @@
 -- The definitions that the contracts of `octets` cite, and those of the crates above it.
-pub mod Pick
 pub mod Table
 pub mod Written
 pub mod Number

@@ -31,11 +31,6 @@ packet n fs = stored fs (zeros n)
 
 -- ---- what a statement says of the fields: each test of their places computes where the places are numerals
 
--- P holds of every field
-abbrev pub Each : (Field → Type 0) → List Field → Type 0
-Each P [] = Unit {0}
-Each P (f ∷ fs) = P f × Each P fs
-
 -- every field ends at or before n
 abbrev pub within : ℕ → List Field → Bool
 within n [] = true

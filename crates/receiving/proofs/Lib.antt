@@ -1,6 +1,4 @@
 -- The laws of a receiver: a file imports only what stands above it here.
-pub mod Events
-pub mod Times
-pub mod Walks
-pub mod Reports
+pub mod Quiets
 pub mod Receivers
+pub mod Hearings

@@ -3,14 +3,14 @@ use Prim.Native.Nat.{ℕ, _+_}
 use mathlib.Core.Path.{_≡_, ap, _∙_}
 use Rattle.stall.specs.Episode.{delivered, reported}
 use Rattle.stall.specs.declared.StallEpisode.{StallEpisode}
-use Rattle.account.specs.Begin.{orAt, begunBy}
-use Rattle.account.specs.Pass.{shut}
-use Rattle.account.specs.Rules.{begun}
-use Rattle.account.specs.Take.{handed}
-use Rattle.account.specs.Parts.{with-stall}
-use Rattle.account.specs.declared.receiver.Anchor.{Anchor}
-use Rattle.account.specs.declared.receiver.Receiver.{Receiver}
-use Rattle.account.specs.declared.receiver.Window.{Window}
+use Rattle.model.specs.Begin.{orAt, begunBy}
+use Rattle.model.specs.Pass.{shut}
+use Rattle.model.specs.Rules.{begun}
+use Rattle.model.specs.Take.{handed}
+use Rattle.model.specs.Parts.{with-stall}
+use Rattle.model.specs.declared.receiver.Anchor.{Anchor}
+use Rattle.model.specs.declared.receiver.Receiver.{Receiver}
+use Rattle.model.specs.declared.receiver.Window.{Window}
 
 -- a read opens with this anchor and this window
 abbrev openedWith : Receiver → Anchor → Window → Receiver

@@ -1,2 +1,3 @@
--- The definitions that the contracts of `receiving` cite beside account's.
-pub mod Report
+-- The definitions that the contracts of `receiving` cite beside model's.
+pub mod Quiet
+pub mod Hears

@@ -1,18 +1,27 @@
-// A receiver hears a valid I/Q datagram.
+// A receiver hears a valid I/Q datagram: its number is judged, its samples are read, what it misses is reported, and it waits.
 ghost use mathlib.Core.Path.{_≡_};
-ghost use Rattle.account.specs.Hearing.{valid, eventOf, leftOut, queued};
-ghost use Rattle.account.specs.Parts.{with-tracker};
-use super::elapsed::capped;
-use super::elapsed::plausible_lost_datagrams;
-use super::elapsed::unaccounted;
-use super::report::Report;
-use super::window::used;
-use account::receiver::Anchor;
-use account::receiver::Parked;
-use account::receiver::Reading;
-use account::receiver::Receiver;
-use wire::sequence::SeqEvent;
-use wire::sequence::SeqTracker;
+ghost use mathlib.Core.List.{[], _∷_};
+ghost use Prim.Native.Nat.{_≤_};
+ghost use lib.ListN.{length};
+ghost use Rattle.base.specs.Told.{gives};
+ghost use Rattle.wire.specs.Iq.{headerTold};
+ghost use Rattle.model.specs.Hearing.{valid, eventOf, leftOut, queued};
+ghost use Rattle.model.specs.Parts.{with-tracker};
+ghost use Rattle.receiving.specs.Hears.{Hears};
+use health::InputHealthCounters;
+use model::receiver::Anchor;
+use model::receiver::Parked;
+use model::receiver::Reading;
+use model::receiver::Receiver;
+use outage::elapsed::capped;
+use outage::elapsed::unaccounted;
+use outage::report::Report;
+use outage::report::report_event;
+use outage::window::used;
+use sequence::SeqEvent;
+use sequence::SeqTracker;
+use stream::jump_limit;
+use wire::iq::parse_iq_datagram;
 
 pub struct Judged {
     pub event: SeqEvent,
@@ -37,7 +46,7 @@ fn note_valid(r: Receiver, tracker: SeqTracker, now: u64) -> Receiver
 }
 
 // The event that the number count is told as, and the receiver that heard it.
-pub fn judge(rate: f64, r: Receiver, now: u64, count: u32) -> Judged
+fn judge(rate: f64, r: Receiver, now: u64, count: u32) -> Judged
     ensures { λ j. ⌜ j ≡ record { event = eventOf rate r now count; receiver = leftOut r now count } ⌝ }
 {
     let parked = r.parked;
@@ -47,7 +56,7 @@ pub fn judge(rate: f64, r: Receiver, now: u64, count: u32) -> Judged
     let seen = tracker.observe(count);
     let observed = seen.event;
     let moved = seen.tracker;
-    let event = capped(plausible_lost_datagrams(since_last, rate), observed);
+    let event = capped(jump_limit(since_last, rate), observed);
     Judged {
         event,
         receiver: note_valid(r, moved, now),
@@ -55,7 +64,7 @@ pub fn judge(rate: f64, r: Receiver, now: u64, count: u32) -> Judged
 }
 
 // Any event but Stale: its samples wait, and what it misses is told.
-pub fn accept(r: Receiver, report: Report, now: u64) -> Receiver
+fn accept(r: Receiver, report: Report, now: u64) -> Receiver
     ensures { λ q. ⌜ q ≡ queued r now (report .missing) (report .pending) ⌝ }
 {
     let parked = r.parked;
@@ -69,4 +78,50 @@ pub fn accept(r: Receiver, report: Report, now: u64) -> Receiver
     next.pending = pending;
     next.last_accepted_iq = now;
     next
+}
+
+// What a datagram is told as, what it misses, and the receiver and the counts after it.
+pub struct Heard {
+    pub event: SeqEvent,
+    pub missing: u64,
+    pub receiver: Receiver,
+    pub health: InputHealthCounters,
+}
+
+// The datagram has this count and a right header, and no more numbers wait than a socket buffer holds: whoever routed it has tested
+// both. The number is judged before a sample is written, so that Stale leaves the lent samples as they were.
+pub fn hear(
+    rate: f64,
+    r: Receiver,
+    health: InputHealthCounters,
+    samples: &mut [f32; 476],
+    reading: u64,
+    later: u64,
+    count: u32,
+    datagram: &[u8],
+    waiting: &[u32],
+) -> Heard
+    requires { ⌜ (headerTold (now datagram) ≡ gives (count ∷ [])) × (length (now waiting) ≤ 8192) ⌝ }
+    ensures { λ h. ⌜ Hears rate r health (now (samples .entry)) reading later count (now (datagram .entry)) (now (waiting .entry)) h (now (samples .exit)) ⌝ }
+{
+    let judged = judge(rate, r, reading, count);
+    let event = judged.event;
+    let valid = judged.receiver;
+    let SeqEvent::Stale = event else {
+        parse_iq_datagram(datagram, samples);
+        let report = report_event(rate, event, valid, health, reading, later, waiting);
+        let counted = report.health;
+        return Heard {
+            event,
+            missing: report.missing,
+            receiver: accept(valid, report, reading),
+            health: counted,
+        };
+    };
+    Heard {
+        event,
+        missing: 0,
+        receiver: valid,
+        health,
+    }
 }

@@ -1,8 +1,5 @@
-// A receiver, as the Rust's mod.rs has it: its read and its anchors, its queue, its park window, and what an arrival misses. Nothing
-// here names the session.
-pub mod elapsed;
+// A receiver, as the Rust's mod.rs has it: its read and its anchors, its queue, and how it hears a datagram. Nothing here names the
+// session.
 pub mod hear;
 pub mod queue;
 pub mod read;
-pub mod report;
-pub mod window;

@@ -3,20 +3,21 @@ ghost use mathlib.Core.Path.{_≡_};
 ghost use Prim.Native.Nat.{_+_, _≤_};
 ghost use lib.ListN.{length, take, drop};
 ghost use Rattle.octets.specs.Written.{written};
-ghost use Rattle.account.specs.State as State;
-ghost use Rattle.account.specs.Take as Take;
+ghost use Rattle.model.specs.State as State;
+ghost use Rattle.model.specs.Take as Take;
 use super::read::shut;
-use account::receiver::Receiver;
+use model::receiver::Receiver;
+use stream::SAMPLES_PER_DATAGRAM;
 
-// I/Q pairs in a datagram, and so in the lent samples.
-pub const SAMPLES_PER_DATAGRAM: usize = 238;
+// The I/Q pairs of a datagram, and so of the lent samples.
+const PAIRS: usize = SAMPLES_PER_DATAGRAM as usize;
 
 // How many samples wait.
 pub fn left(r: Receiver) -> usize
     ensures { λ n. ⌜ n ≡ State.left r ⌝ }
 {
-    if r.queue_pos < SAMPLES_PER_DATAGRAM {
-        return SAMPLES_PER_DATAGRAM - r.queue_pos;
+    if r.queue_pos < PAIRS {
+        return PAIRS - r.queue_pos;
     }
     0
 }

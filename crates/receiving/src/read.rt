@@ -1,23 +1,50 @@
 // The read and its anchors: when it opened, since when it is quiet, and that it closes.
 ghost use mathlib.Core.Path.{_≡_};
+ghost use mathlib.Core.Bool.{not, _||_};
 ghost use Rattle.stall.specs.Episode.{reported};
-ghost use Rattle.account.specs.Begin as Begin;
-ghost use Rattle.account.specs.Parts.{with-stall};
-ghost use Rattle.account.specs.Pass as Pass;
-ghost use Rattle.account.specs.State as State;
-use super::window::begun;
-use account::receiver::Anchor;
-use account::receiver::Parked;
-use account::receiver::Reading;
-use account::receiver::Receiver;
+ghost use Rattle.model.specs.Begin as Begin;
+ghost use Rattle.model.specs.Parts.{with-stall};
+ghost use Rattle.model.specs.Pass as Pass;
+ghost use Rattle.model.specs.State as State;
+ghost use Rattle.receiving.specs.Quiet.{quietAt};
+use double::time::since;
+use model::receiver::Anchor;
+use model::receiver::Parked;
+use model::receiver::Reading;
+use model::receiver::Receiver;
+use outage::window::begun;
 
-pub fn is_set(anchor: Anchor) -> bool
+fn is_set(anchor: Anchor) -> bool
     ensures { λ r. ⌜ r ≡ State.isSet anchor ⌝ }
 {
     match anchor {
         Anchor::Unset => false,
         Anchor::At(_) => true,
     }
+}
+
+// 10 of Pass, Arrival and Take: the session is closed, or no read is open.
+pub fn not_reading(closed: bool, r: Receiver) -> bool
+    ensures { λ b. ⌜ b ≡ (closed || not (State.isOpen r)) ⌝ }
+{
+    if closed {
+        return true;
+    }
+    let reading = r.reading;
+    let entered = reading.entered;
+    !is_set(entered)
+}
+
+// 10 of Begin: the session is closed, or a read is open.
+pub fn not_idle(closed: bool, r: Receiver) -> bool
+    ensures { λ b. ⌜ b ≡ (closed || State.isOpen r) ⌝ }
+{
+    if closed {
+        return true;
+    }
+    let reading = r.reading;
+    let entered = reading.entered;
+    is_set(entered)
 }
 
 // When quiet began: at the last valid I/Q datagram or at the read's anchor, whichever is later.
@@ -33,6 +60,30 @@ pub fn quiet_since(r: Receiver) -> u64
         return t;
     }
     r.last_valid_iq
+}
+
+// What quiet comes to.
+pub enum Quiet {
+    // no stall is due
+    Short,
+    // told once, after a delivery
+    Soft,
+    Hard,
+}
+
+// At this reading, with these stall times: the soft one is told before the hard one.
+pub fn quiet_at(r: Receiver, now: u64, soft_after: u64, stall_after: u64) -> Quiet
+    ensures { λ q. ⌜ q ≡ quietAt r now «soft_after» «stall_after» ⌝ }
+{
+    let last = quiet_since(r);
+    let stall = r.stall;
+    if stall.due(last, now, soft_after, stall_after) {
+        return Quiet::Soft;
+    }
+    if since(now, last) >= stall_after {
+        return Quiet::Hard;
+    }
+    Quiet::Short
 }
 
 // The read closes; its wait anchor stays.

@@ -7,22 +7,23 @@ use lib.ListN.{length, drop}
 use lib.Dec.{T}
 use lib.Ieee.{Float}
 use native.Mathlib.Omega.{arith}
-use Rattle.octets.proofs.Picks.{pick-t, pick-f}
-use Rattle.account.specs.Host.{Call, Reply, trace, final}
-use Rattle.account.specs.Settings.{accepts}
-use Rattle.account.specs.State.{State, waitingIn}
-use Rattle.account.specs.Session.{step, openedWith, session}
+use Rattle.base.proofs.Picks.{pick-t, pick-f}
+use Rattle.model.specs.Host.{Call, Reply, trace, final}
+use Rattle.model.specs.Settings.{accepts}
+use Rattle.model.specs.State.{State, waitingIn}
+use Rattle.model.specs.Session.{step, openedWith, session}
 use Rattle.account.specs.Ledger.{callsOf}
 use Rattle.account.specs.Demand3.{Account}
-use Rattle.account.proofs.Traces.{trace-append, final-append}
+use Rattle.model.proofs.Traces.{trace-append, final-append}
 use Rattle.account.proofs.Demand3.{demand3}
-use Rattle.account.specs.declared.settings.Settings.{Settings}
-use Rattle.replay.specs.Runs.{Lent, decoded, toldOf, host, Left, isRan, allRun, carried, Carries}
+use Rattle.model.specs.declared.settings.Settings.{Settings}
+use Rattle.encoding.specs.Lists.{Lent, decoded, toldOf, isRan}
+use Rattle.replay.specs.Runs.{host, Left, allRun, carried, Carries}
 use Rattle.replay.specs.Replay.{repliesIn, numbered}
 use Rattle.replay.specs.Chunks.{Runs}
-use Rattle.replay.specs.declared.walk.Told.{Told}
-use Rattle.replay.specs.declared.walk.Told.the-variants.{Ran, NotOpened, Lengths, NoCall, NoRoom}
-use Rattle.replay.proofs.Checks.{lengths}
+use Rattle.encoding.specs.declared.check.Told.{Told}
+use Rattle.encoding.specs.declared.check.Told.the-variants.{Ran, NotOpened, Lengths, NoCall, NoRoom}
+use Rattle.encoding.proofs.Checks.{lengths}
 use Rattle.replay.proofs.ReadBack.{read-back}
 
 -- a run of a ++ b is the run of b after the run of a

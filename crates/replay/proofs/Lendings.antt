@@ -8,13 +8,13 @@ use lib.Dec.{eqb}
 use lib.Ieee.{Float}
 use native.Mathlib.Omega.{arith}
 use borrow.Author.Tests.{eqb-true, eqb-false}
-use Rattle.octets.specs.Pick.{pick}
-use Rattle.account.specs.Host.{Call}
-use Rattle.account.specs.Refusals.{lentPackets, lentBuffer}
-use Rattle.replay.specs.Encoding.{lendsPackets, callOf}
-use Rattle.replay.specs.Runs.{part}
-use Rattle.replay.specs.declared.words.Words.{Words}
-use Rattle.replay.proofs.Dispatch.{Is, as-begin, as-pass, as-arrival, as-take, as-close, as-missing, as-discontinuity, as-stalled}
+use Rattle.base.specs.Pick.{pick}
+use Rattle.model.specs.Host.{Call}
+use Rattle.model.specs.Refusals.{lentPackets, lentBuffer}
+use Rattle.encoding.specs.Words.{lendsPackets, callOf}
+use Rattle.encoding.specs.Lists.{part}
+use Rattle.encoding.specs.declared.words.Words.{Words}
+use Rattle.turns.proofs.Dispatch.{Is, as-begin, as-pass, as-arrival, as-take, as-close, as-missing, as-discontinuity, as-stalled}
 
 module _ (w : Words) (o n d : List ℕ) (f : List Float) where
   abbrev Lends : Type 0

@@ -1,12 +1,6 @@
--- The laws of a list of calls, run.
-pub mod Fitting
-pub mod Arms
-pub mod Dispatch
-pub mod Checks
-pub mod Eight
-pub mod Laid
+-- The laws of a list of calls, run: a file imports only what stands above it here.
+pub mod Fronts
 pub mod Walks
-pub mod Decodes
 pub mod Lendings
 pub mod ReadBack
 pub mod Chunks

@@ -9,20 +9,21 @@ use lib.Ieee.{Float}
 use native.Mathlib.Omega.{arith}
 use Rattle.octets.specs.Written.{written}
 use Rattle.octets.proofs.Writes.{written-front}
-use Rattle.account.specs.Answer.{Answer}
-use Rattle.account.specs.Host.{Reply, trace}
-use Rattle.account.specs.State.{State}
-use Rattle.account.specs.Session.{step}
-use Rattle.account.proofs.Room.{room-suffices}
-use Rattle.replay.specs.Encoding.{wordsAt, lendsPackets, takenBy, nothing, Within}
-use Rattle.replay.specs.Runs.{Lent, room, part, callAt, takenWith, callsFrom, decoded, checkFrom, host, all, numbersIn, packetsIn, bufferIn}
-use Rattle.replay.specs.Code.{answerIn, streamsIn}
+use Rattle.model.specs.Answer.{Answer}
+use Rattle.model.specs.Host.{Reply, trace}
+use Rattle.model.specs.State.{State}
+use Rattle.model.specs.Session.{step}
+use Rattle.model.proofs.Room.{room-suffices}
+use Rattle.encoding.specs.Words.{wordsAt, lendsPackets, takenBy, nothing, Within}
+use Rattle.encoding.specs.Lists.{Lent, room, part, callAt, takenWith, callsFrom, decoded, checkFrom}
+use Rattle.encoding.specs.Code.{numbersIn, answerIn, streamsIn}
+use Rattle.replay.specs.Runs.{host, all, packetsIn, bufferIn}
 use Rattle.replay.specs.Replay.{replyAt, repliesFrom, repliesIn}
-use Rattle.replay.specs.declared.words.Amounts.{Amounts}
-use Rattle.replay.specs.declared.walk.Told.the-variants.{Ran}
-use Rattle.replay.proofs.Fitting.{within-says}
-use Rattle.replay.proofs.Checks.{fine-next}
-use Rattle.replay.proofs.Decodes.{numbers-size, answer-is, streams-are}
+use Rattle.encoding.specs.declared.words.Amounts.{Amounts}
+use Rattle.encoding.specs.declared.check.Told.the-variants.{Ran}
+use Rattle.encoding.proofs.Fitting.{within-says}
+use Rattle.encoding.proofs.Checks.{fine-next}
+use Rattle.encoding.proofs.Decodes.{numbers-size, answer-is, streams-are}
 use Rattle.replay.proofs.Lendings.{lends, part-size}
 
 module _ {A : Type 0} where

@@ -1,5 +1,5 @@
 -- What `carry_on` and `replay` return, from what their parts were promised. Assumes nothing.
-use Prim.Native.Nat.{ℕ, _%_, _/_}
+use Prim.Native.Nat.{ℕ}
 use mathlib.Core.Path.{_≡_, sym, ap, subst, _∙_}
 use mathlib.Core.Bool.{Bool, true, false, not}
 use mathlib.Core.List.{List}
@@ -7,38 +7,23 @@ use lib.ListN.{length}
 use lib.Dec.{T}
 use lib.Ieee.{Float}
 use native.Mathlib.Omega.{arith}
-use borrow.Author.Tests.{eq-eqb, ne-eqb, not-true, not-false}
-use Rattle.octets.proofs.Picks.{pick-t, pick-f}
-use Rattle.account.specs.Settings.{settingsAnswer, isGiven, accepts}
-use Rattle.account.specs.Open.{opened}
-use Rattle.account.specs.State.{State}
-use Rattle.account.specs.Session.{openedWith}
-use Rattle.account.specs.declared.session.Session.{Session}
-use Rattle.account.specs.declared.settings.Settings.{Settings}
-use Rattle.account.specs.declared.settings.SettingsAnswer.{SettingsAnswer}
-use Rattle.session.specs.Gives.{Opens, joined}
-use Rattle.replay.specs.Encoding.{nothing}
-use Rattle.replay.specs.Runs.{Lent, checkFrom, toldIn, toldOf, isRan, untouched, carried, Carries, RunsAll}
+use borrow.Author.Tests.{not-true, not-false}
+use Rattle.base.proofs.Picks.{pick-t, pick-f}
+use Rattle.model.specs.Settings.{settingsAnswer, isGiven, accepts}
+use Rattle.model.specs.Open.{opened}
+use Rattle.model.specs.State.{State}
+use Rattle.model.specs.Session.{openedWith}
+use Rattle.model.specs.declared.session.Session.{Session}
+use Rattle.model.specs.declared.settings.Settings.{Settings}
+use Rattle.model.specs.declared.settings.SettingsAnswer.{SettingsAnswer}
+use Rattle.opening.specs.Opens.{Opens}
+use Rattle.model.specs.Gives.{joined}
+use Rattle.encoding.specs.Lists.{Lent, toldOf, isRan}
+use Rattle.replay.specs.Runs.{untouched, carried, Carries, RunsAll}
 use Rattle.replay.specs.Replay.{replayed, Replays}
-use Rattle.replay.specs.declared.words.Amounts.{Amounts}
-use Rattle.replay.specs.declared.walk.Told.{Told}
-use Rattle.replay.specs.declared.walk.Told.the-variants.{Ran, NotOpened, Lengths}
+use Rattle.encoding.specs.declared.check.Told.{Told}
+use Rattle.encoding.specs.declared.check.Told.the-variants.{Ran, NotOpened}
 use Rattle.replay.proofs.Chunks.{ran-is, carries-runs, runs-account}
-
--- ---- whether a list is run
-
-module _ (calls : List ℕ) (room : Amounts) (answers : ℕ) where
-  pub not-whole : (length calls % 8 ≡ 0 → ⊥) → Lengths ≡ toldIn calls room answers
-  unfolding toldIn
-  not-whole h = sym (pick-f _ _ _ (ne-eqb _ _ h))
-
-  pub not-as-many : length calls % 8 ≡ 0 → (answers ≡ length calls → ⊥) → Lengths ≡ toldIn calls room answers
-  unfolding toldIn
-  not-as-many h k = sym (pick-t _ _ _ (eq-eqb _ _ h) ∙ pick-f _ _ _ (ne-eqb _ _ k))
-
-  pub by-each : length calls % 8 ≡ 0 → answers ≡ length calls → (t : Told) → t ≡ checkFrom calls room (length calls / 8) 0 nothing → t ≡ toldIn calls room answers
-  unfolding toldIn
-  by-each h k t e = e ∙ sym (pick-t _ _ _ (eq-eqb _ _ h) ∙ pick-t _ _ _ (eq-eqb _ _ k))
 
 -- ---- carried on
 

@@ -8,17 +8,20 @@ use lib.Dec.{eqb}
 use lib.Ieee.{Float}
 use native.Mathlib.Omega.{arith}
 use Rattle.octets.specs.Written.{written}
-use Rattle.account.specs.Host.{Call, Reply, Step, trace, final}
-use Rattle.account.specs.State.{State}
-use Rattle.account.specs.Session.{step}
-use Rattle.replay.specs.Encoding.{wordsAt, isCall, lendsPackets, takenBy, nothing, Within, callOf}
-use Rattle.replay.specs.Runs.{Lent, room, callAt, takenWith, callsFrom, checkFrom, host, Left, all, numbersIn, packetsIn, bufferIn, RunsAll, Turns, TurnsAt}
-use Rattle.replay.specs.declared.words.Words.{Words}
-use Rattle.replay.specs.declared.words.Amounts.{Amounts}
-use Rattle.replay.specs.declared.walk.Told.the-variants.{Ran}
-use Rattle.replay.proofs.Fitting.{within-says}
-use Rattle.replay.proofs.Checks.{fine}
-use Rattle.replay.proofs.Laid.{Laid, laid-none, part-is, laid-more, laid-as, laid-all, all-more, as-lent}
+use Rattle.model.specs.Host.{Call, Reply, Step, trace, final}
+use Rattle.model.specs.State.{State}
+use Rattle.model.specs.Session.{step}
+use Rattle.encoding.specs.Words.{wordsAt, isCall, lendsPackets, takenBy, nothing, Within, callOf}
+use Rattle.encoding.specs.Lists.{Lent, room, callAt, takenWith, callsFrom, checkFrom}
+use Rattle.encoding.specs.Code.{numbersIn}
+use Rattle.turns.specs.Turns.{Turns, TurnsAt}
+use Rattle.replay.specs.Runs.{host, Left, all, packetsIn, bufferIn, RunsAll}
+use Rattle.encoding.specs.declared.words.Words.{Words}
+use Rattle.encoding.specs.declared.words.Amounts.{Amounts}
+use Rattle.encoding.specs.declared.check.Told.the-variants.{Ran}
+use Rattle.encoding.proofs.Fitting.{within-says}
+use Rattle.encoding.proofs.Checks.{fine}
+use Rattle.replay.proofs.Fronts.{Laid, laid-none, part-is, laid-more, laid-as, laid-all, all-more, as-lent}
 
 left-is : (a a′ p p′ : List ℕ) (q q′ : List Float) (s s′ : State) → a ≡ a′ → p ≡ p′ → q ≡ q′ → s ≡ s′
     → _≡_ {A = Left} (record { told = Ran; answers = a; packets = p; places = q; state = s }) (record { told = Ran; answers = a′; packets = p′; places = q′; state = s′ })

@@ -1,8 +1,8 @@
 -- A list of calls that is run in parts, each carried on from the state that the one before left. Definitions only.
 use mathlib.Core.Path.{_≡_}
 use mathlib.Core.List.{List}
-use Rattle.account.specs.Host.{Call, Reply, trace, final}
-use Rattle.account.specs.State.{State}
+use Rattle.model.specs.Host.{Call, Reply, trace, final}
+use Rattle.model.specs.State.{State}
 use Rattle.replay.specs.Runs.{host}
 
 -- from st these calls get these replies, and leave st′

@@ -1,7 +1,4 @@
--- The definitions that the contracts of `replay` cite: calls and answers as numbers, and what a run of them leaves.
-pub mod Encoding
-pub mod Code
-pub mod Reply
+-- The definitions that the contracts of `replay` cite: what the run of a list of calls leaves.
 pub mod Runs
 pub mod Replay
 pub mod Chunks

@@ -4,23 +4,24 @@ use mathlib.Core.Path.{_≡_}
 use mathlib.Core.List.{List, [], _∷_}
 use lib.ListN.{length, getD, drop}
 use lib.Ieee.{Float}
-use Rattle.octets.specs.Pick.{pick}
-use Rattle.account.specs.Host.{Call, Reply}
-use Rattle.account.specs.Settings.{settingsAnswer, settingsTold, accepts}
-use Rattle.account.specs.State.{State, waitingIn}
-use Rattle.account.specs.Open.{unopened}
-use Rattle.account.specs.Session.{openedWith}
+use Rattle.base.specs.Pick.{pick}
+use Rattle.model.specs.Host.{Call, Reply}
+use Rattle.model.specs.Settings.{settingsAnswer, settingsTold, accepts}
+use Rattle.model.specs.State.{State, waitingIn}
+use Rattle.model.specs.Open.{unopened}
+use Rattle.model.specs.Session.{openedWith}
 use Rattle.account.specs.Ledger.{Sent}
 use Rattle.account.specs.Demand3.{Account}
-use Rattle.account.specs.declared.settings.Settings.{Settings}
-use Rattle.account.specs.declared.settings.SettingsAnswer.{SettingsAnswer}
-use Rattle.session.specs.Gives.{joined}
-use Rattle.replay.specs.Encoding.{wordsAt, takenBy, nothing}
-use Rattle.replay.specs.Code.{answerIn, streamsIn}
-use Rattle.replay.specs.Runs.{Lent, part, takenWith, decoded, Left, untouched, carried}
-use Rattle.replay.specs.declared.words.Amounts.{Amounts}
-use Rattle.replay.specs.declared.walk.Told.{Told}
-use Rattle.replay.specs.declared.walk.Told.the-variants.{Ran, NotOpened}
+use Rattle.model.specs.declared.settings.Settings.{Settings}
+use Rattle.model.specs.declared.settings.SettingsAnswer.{SettingsAnswer}
+use Rattle.model.specs.Gives.{joined}
+use Rattle.encoding.specs.Words.{wordsAt, takenBy, nothing}
+use Rattle.encoding.specs.Code.{answerIn, streamsIn}
+use Rattle.encoding.specs.Lists.{Lent, part, takenWith, decoded}
+use Rattle.replay.specs.Runs.{Left, untouched, carried}
+use Rattle.encoding.specs.declared.words.Amounts.{Amounts}
+use Rattle.encoding.specs.declared.check.Told.{Told}
+use Rattle.encoding.specs.declared.check.Told.the-variants.{Ran, NotOpened}
 
 -- ---- what it wrote, read back
 

@@ -1,24 +1,26 @@
 // A list of calls, run: from a session just opened, or carried on from one that has run already.
 ghost use mathlib.Core.Path.{_≡_};
 ghost use lib.ListN.{length};
-ghost use Rattle.account.specs.Settings.{settingsAnswer, isGiven};
-ghost use Rattle.session.specs.Gives.{joined};
-ghost use Rattle.replay.specs.Runs.{isRan, lentBy, toldOf, RunsAll, Carries};
+ghost use Rattle.model.specs.Settings.{settingsAnswer, isGiven};
+ghost use Rattle.model.specs.Gives.{joined};
+ghost use Rattle.encoding.specs.Lists.{lentBy, toldOf};
+ghost use Rattle.replay.specs.Runs.{RunsAll, Carries};
 ghost use Rattle.replay.specs.Replay.{Replays};
-ghost use Rattle.replay.specs.declared.walk.Told.the-variants.{Ran};
-use super::walk::Told;
-use super::walk::check;
-use super::walk::turn_at;
-use super::words::Amounts;
-use super::words::CALL_LEN;
-use super::words::nothing;
-use super::words::plus;
-use super::words::taken_by;
-use super::words::words_at;
-use account::session::Session;
-use account::settings::Settings;
-use account::settings::SettingsAnswer;
-use session::open::open;
+ghost use Rattle.encoding.specs.declared.check.Told.the-variants.{Ran};
+use encoding::check::Told;
+use encoding::check::check;
+use encoding::check::is_ran;
+use encoding::words::Amounts;
+use encoding::words::CALL_LEN;
+use encoding::words::nothing;
+use encoding::words::plus;
+use encoding::words::taken_by;
+use encoding::words::words_at;
+use model::session::Session;
+use model::settings::Settings;
+use model::settings::SettingsAnswer;
+use opening::open::open;
+use turns::turn::turn_at;
 
 // What became of a list, and the session after it.
 pub struct Carried {
@@ -71,18 +73,6 @@ fn run(
         i += 1;
     }
     s
-}
-
-fn is_ran(told: Told) -> bool
-    ensures { λ r. ⌜ r ≡ isRan told ⌝ }
-{
-    match told {
-        Told::Ran => true,
-        Told::NotOpened => false,
-        Told::Lengths => false,
-        Told::NoCall(_) => false,
-        Told::NoRoom(_) => false,
-    }
 }
 
 fn is_accepted(answer: SettingsAnswer) -> bool

@@ -7,20 +7,20 @@ use lib.ListN.{length, take, drop, set, getD, replicate, length-append}
 use lib.Seq.{set-at, append-snoc}
 use native.Mathlib.Omega.{arith}
 use borrow.Author.Tests.{le-ltb}
-use Rattle.octets.proofs.Picks.{pick-t, pick-f}
-use Rattle.octets.specs.Pick.{pick}
+use Rattle.base.proofs.Picks.{pick-t, pick-f}
+use Rattle.base.specs.Pick.{pick}
 use Rattle.wire.specs.Packet.{highPacket, Sent}
 use Rattle.wire.specs.declared.packet.PacketAnswer.{PacketAnswer}
 use Rattle.octets.specs.Written.{written, Put}
 use Rattle.octets.proofs.Puts.{put-none, put-then, put-part}
-use Rattle.account.specs.Sending.{Sending, idle, then, sizeOf, packetOf, send}
-use Rattle.account.specs.Stream.{offsetOf, streamsAs}
-use Rattle.account.proofs.Room.{Within, packet-size}
-use Rattle.account.specs.Parts.{with-seq}
-use Rattle.account.specs.declared.stream.Stream.{Stream}
-use Rattle.account.specs.declared.stream.Stream.the-variants.{General, RxSpecific, TxSpecific, HighPriority}
-use Rattle.account.specs.declared.stream.Streams.{Streams}
-use Rattle.account.specs.declared.session.Common.{Common}
+use Rattle.model.specs.Sending.{Sending, idle, then, sizeOf, packetOf, send}
+use Rattle.model.specs.Command.{offsetOf, streamsAs}
+use Rattle.model.proofs.Room.{Within, packet-size}
+use Rattle.model.specs.Parts.{with-seq}
+use Rattle.model.specs.declared.command.Stream.{Stream}
+use Rattle.model.specs.declared.command.Stream.the-variants.{General, RxSpecific, TxSpecific, HighPriority}
+use Rattle.model.specs.declared.command.Streams.{Streams}
+use Rattle.model.specs.declared.session.Common.{Common}
 use Rattle.sending.specs.Progress.{appended, listing, started, HasRoom, Sends}
 use Rattle.sending.specs.declared.send.Progress.{Progress}
 

@@ -4,10 +4,10 @@ use mathlib.Core.Path.{_≡_}
 use mathlib.Core.List.{List, [], _∷_}
 use lib.ListN.{set}
 use Rattle.octets.specs.Written.{Put}
-use Rattle.account.specs.Sending.{Sending}
-use Rattle.account.specs.Stream.{streamsAs}
-use Rattle.account.specs.declared.stream.Streams.{Streams}
-use Rattle.account.specs.declared.session.Common.{Common}
+use Rattle.model.specs.Sending.{Sending}
+use Rattle.model.specs.Command.{streamsAs}
+use Rattle.model.specs.declared.command.Streams.{Streams}
+use Rattle.model.specs.declared.session.Common.{Common}
 use Rattle.sending.specs.declared.send.Progress.{Progress}
 
 -- one stream more in the code's list, and several

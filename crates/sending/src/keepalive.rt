@@ -1,15 +1,15 @@
 // Packets that are due: keepalives whose interval has passed, and an attenuation step's.
 ghost use lib.ListN.{length};
-ghost use Rattle.account.specs.Sending as Sending;
+ghost use Rattle.model.specs.Sending as Sending;
 ghost use Rattle.sending.specs.Progress.{Sends, HasRoom};
 use super::send::Progress;
 use super::send::send;
-use account::session::Attenuation;
-use account::session::Attenuator;
-use account::stream::Stream;
 use attenuator::AttenuationStep;
 use attenuator::Stepped;
 use double::time::since;
+use model::command::Stream;
+use model::session::Attenuation;
+use model::session::Attenuator;
 
 // The keepalives' intervals, in nanoseconds.
 const HIGH_PRIORITY_EVERY: u64 = 100_000_000;

@@ -1,50 +1,49 @@
 -- Pass and Close: which of their answers, by the tests that the code makes. Assumes nothing.
-use Prim.Native.Nat.{ℕ, _-_, _≤_, _<_}
-use mathlib.Core.Path.{_≡_, refl, ap, _∙_}
-use mathlib.Core.Bool.{true, false}
+use Prim.Native.Nat.{ℕ, _-_}
+use mathlib.Core.Path.{_≡_, refl, sym, ap, _∙_}
+use mathlib.Core.Bool.{Bool, true, false}
 use mathlib.Core.List.{List, []}
 use Rattle.octets.specs.Written.{written}
-use Rattle.octets.proofs.Picks.{pick-t, pick-f}
-use Rattle.stall.specs.Episode.{isDue}
-use Rattle.account.specs.Answer.{done, ready, sent, closed}
-use Rattle.account.specs.State.{waits, quietSince, replied}
-use Rattle.account.specs.Sending.{duePackets, stopPackets, wrote}
-use Rattle.account.specs.Stream.{streamsAs}
-use Rattle.account.specs.Parts.{with-common, with-closed}
-use Rattle.account.specs.Close.{stop}
-use Rattle.account.specs.Pass.{stallSoft, stallHard, passed}
-use Rattle.account.specs.declared.session.Common.{Common}
-use Rattle.account.specs.declared.session.Session.{Session}
-use Rattle.account.specs.declared.stream.Streams.{Streams}
-use Rattle.session.specs.Gives.{Gives}
-use Rattle.account.proofs.Tests.{was, due, not-due}
+use Rattle.base.proofs.Picks.{pick-t, pick-f}
+use Rattle.model.specs.Answer.{done, ready, sent, closed}
+use Rattle.model.specs.State.{waits, replied}
+use Rattle.model.specs.Sending.{duePackets, stopPackets, wrote}
+use Rattle.model.specs.Command.{streamsAs}
+use Rattle.model.specs.Parts.{with-common, with-closed}
+use Rattle.model.specs.Close.{stop}
+use Rattle.model.specs.Pass.{stallSoft, stallHard, passed}
+use Rattle.model.specs.declared.session.Common.{Common}
+use Rattle.model.specs.declared.session.Session.{Session}
+use Rattle.model.specs.declared.command.Streams.{Streams}
+use Rattle.model.specs.Gives.{Gives}
+use Rattle.base.specs.Pick.{pick}
+use Rattle.model.specs.Host.{Step}
+use Rattle.receiving.specs.Quiet.{quietAt}
+use Rattle.receiving.specs.declared.read.Quiet.{Quiet}
+use Rattle.receiving.specs.declared.read.Quiet.the-variants.{Short, Soft, Hard}
 
 module _ (s : Session) (now : ℕ) (d : List ℕ) where
   pub pass-ready : waits (s .receiver) ≡ true → passed s now d ≡ replied (done ready) [] d [] s
   unfolding passed
   pass-ready h = pick-t _ _ _ h
 
-  module _ (none : waits (s .receiver) ≡ false) (last : ℕ) (hl : last ≡ quietSince (s .receiver)) where
-    pub pass-soft : isDue (s .receiver .stall) last now (s .common .settings .«stall_after») ≡ true → passed s now d ≡ stallSoft s d
-    unfolding passed
-    pass-soft h =
-        pick-f _ _ _ none
-        ∙ pick-t _ _ _ (was (ap (λ (t : ℕ). isDue (s .receiver .stall) t now (s .common .settings .«stall_after»)) hl) h)
+  -- by what quiet comes to
+  module _ (none : waits (s .receiver) ≡ false) (q : Quiet) (hq : q ≡ quietAt (s .receiver) now (s .common .settings .«soft_after») (s .common .settings .«stall_after»)) where
+    -- Soft, Hard and Short, each as the step that it makes
+    abbrev stepOf : Quiet → Step Session
+    stepOf Soft = stallSoft s d
+    stepOf Hard = stallHard s d
+    stepOf Short = wrote (done sent) s d (duePackets now (s .common))
 
-    module _ (soft : isDue (s .receiver .stall) last now (s .common .settings .«stall_after») ≡ false) (since : ℕ) (hs : since ≡ now - last) where
-      not-soft : isDue (s .receiver .stall) (quietSince (s .receiver)) now (s .common .settings .«stall_after») ≡ false
-      not-soft = was (ap (λ (t : ℕ). isDue (s .receiver .stall) t now (s .common .settings .«stall_after»)) hl) soft
+    by-tests : (a b : Bool) → pick a (stallSoft s d) (pick b (stallHard s d) (wrote (done sent) s d (duePackets now (s .common)))) ≡ stepOf (pick a Soft (pick b Hard Short))
+    unfolding pick
+    by-tests true b = refl
+    by-tests false true = refl
+    by-tests false false = refl
 
-      quiet : since ≡ now - quietSince (s .receiver)
-      quiet = hs ∙ ap (λ (t : ℕ). now - t) hl
-
-      pub pass-hard : s .common .settings .«stall_after» ≤ since → passed s now d ≡ stallHard s d
-      unfolding passed
-      pass-hard h = pick-f _ _ _ none ∙ pick-f _ _ _ not-soft ∙ pick-t _ _ _ (due (s .common .settings .«stall_after») now _ since quiet h)
-
-      pub pass-sent : since < s .common .settings .«stall_after» → passed s now d ≡ wrote (done sent) s d (duePackets now (s .common))
-      unfolding passed
-      pass-sent h = pick-f _ _ _ none ∙ pick-f _ _ _ not-soft ∙ pick-f _ _ _ (not-due (s .common .settings .«stall_after») now _ since quiet h)
+    pub pass-quiet : (k : Quiet) → q ≡ k → passed s now d ≡ stepOf k
+    unfolding passed quietAt
+    pass-quiet k e = pick-f _ _ _ none ∙ by-tests _ _ ∙ ap stepOf (sym hq ∙ e)
 
 -- ---- Close
 

@@ -8,13 +8,13 @@ use lib.Ieee.{Float}
 use native.Mathlib.Omega.{arith}
 use borrow.Author.Tests.{ltb-true, le-ltb}
 use Rattle.octets.specs.Written.{written}
-use Rattle.octets.proofs.Picks.{pick-f}
-use Rattle.account.specs.Answer.{took}
-use Rattle.account.specs.Host.{Step}
-use Rattle.account.specs.State.{State, left, waits, notReading, fell, replied}
-use Rattle.account.specs.Take.{front, handed, handOut, takeOut}
-use Rattle.account.specs.Parts.{with-last-reading}
-use Rattle.account.specs.declared.receiver.Receiver.{Receiver}
+use Rattle.base.proofs.Picks.{pick-f}
+use Rattle.model.specs.Answer.{took}
+use Rattle.model.specs.Host.{Step}
+use Rattle.model.specs.State.{State, left, waits, notReading, fell, replied}
+use Rattle.model.specs.Take.{front, handed, handOut, takeOut}
+use Rattle.model.specs.Parts.{with-last-reading}
+use Rattle.model.specs.declared.receiver.Receiver.{Receiver}
 
 -- where samples wait, the queue's position is within the datagram
 pub within : (r : Receiver) → waits r ≡ true → r .«queue_pos» < 238

@@ -1,32 +1,31 @@
 // Begin: a read opens.
 ghost use mathlib.Core.Path.{_≡_};
 ghost use mathlib.Core.List.{[]};
-ghost use Rattle.account.specs.Answer.{beginAnswer};
-ghost use Rattle.account.specs.State.{replied};
-ghost use Rattle.account.specs.Begin as Begin;
-use super::state::fell;
-use super::state::not_idle;
-use account::answer::BeginAnswer;
-use account::answer::Begun;
-use account::session::Session;
+ghost use Rattle.model.specs.Answer.{beginAnswer};
+ghost use Rattle.model.specs.State.{replied};
+ghost use Rattle.model.specs.Begin as Begin;
+use model::answer::BeginAnswer;
+use model::answer::Begun;
+use model::session::Session;
 use receiving::read::begun_by;
+use receiving::read::not_idle;
 
 pub fn begin(s: Session, now: u64) -> Begun
     ensures { λ r. ⌜ replied (beginAnswer (r .answer)) [] [] [] (r .session) ≡ Begin.begin s now ⌝ }
 {
-    if not_idle(s) {
+    let receiver = s.receiver;
+    if not_idle(s.common.closed, receiver) {
         return Begun {
             answer: BeginAnswer::NotNow,
             session: s,
         };
     }
-    if fell(s, now) {
+    if now < s.common.last_reading {
         return Begun {
             answer: BeginAnswer::ReadingFell,
             session: s,
         };
     }
-    let receiver = s.receiver;
     let opened = begun_by(receiver, s.common.settings.park_window, now);
     let mut next = s;
     next.common.last_reading = now;

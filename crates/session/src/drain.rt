@@ -1,31 +1,27 @@
 // The three drains: each returns and empties what it names. They are never refused.
 ghost use mathlib.Core.Path.{_≡_};
 ghost use mathlib.Core.List.{[]};
-ghost use Rattle.account.specs.Answer.{slot, flag};
-ghost use Rattle.account.specs.State.{replied};
-ghost use Rattle.account.specs.Drain as Drain;
-use account::answer::Drained;
-use account::answer::StallTaken;
-use account::receiver::Pending;
-use account::receiver::Slot;
-use account::session::Session;
+ghost use Rattle.model.specs.Answer.{slot, flag};
+ghost use Rattle.model.specs.State.{replied};
+ghost use Rattle.model.specs.Drain as Drain;
+use model::answer::Drained;
+use model::answer::StallTaken;
+use model::session::Session;
+use outage::pending;
 
 pub fn take_missing_samples(s: Session) -> Drained
     ensures { λ r. ⌜ replied (slot (r .slot)) [] [] [] (r .session) ≡ Drain.takeMissing s ⌝ }
 {
     let mut receiver = s.receiver;
     let held = receiver.pending;
-    let missing = held.missing;
-    let discontinuity = held.discontinuity;
-    let pending = Pending {
-        missing: Slot::Empty,
-        discontinuity,
-    };
-    receiver.pending = pending;
+    let drain = pending::take_missing(held);
+    let left = drain.pending;
+    let slot = drain.slot;
+    receiver.pending = left;
     let mut next = s;
     next.receiver = receiver;
     Drained {
-        slot: missing,
+        slot,
         session: next,
     }
 }
@@ -35,17 +31,14 @@ pub fn take_discontinuity(s: Session) -> Drained
 {
     let mut receiver = s.receiver;
     let held = receiver.pending;
-    let missing = held.missing;
-    let discontinuity = held.discontinuity;
-    let pending = Pending {
-        missing,
-        discontinuity: Slot::Empty,
-    };
-    receiver.pending = pending;
+    let drain = pending::take_discontinuity(held);
+    let left = drain.pending;
+    let slot = drain.slot;
+    receiver.pending = left;
     let mut next = s;
     next.receiver = receiver;
     Drained {
-        slot: discontinuity,
+        slot,
         session: next,
     }
 }

@@ -3,22 +3,21 @@ ghost use Prim.Native.Nat.{_≤_};
 ghost use mathlib.Core.Path.{_≡_};
 ghost use mathlib.Core.List.{[]};
 ghost use lib.ListN.{length};
-ghost use Rattle.account.specs.Answer.{passAnswer, done};
-ghost use Rattle.account.specs.Answer as Answer;
-ghost use Rattle.account.specs.Parts.{with-receiver};
-ghost use Rattle.account.specs.Pass as Pass;
-ghost use Rattle.account.specs.Sending.{duePackets, wrote};
-ghost use Rattle.account.specs.Stream.{streamsAs};
-ghost use Rattle.session.specs.Gives.{Gives};
-use super::state::fell;
-use super::state::not_reading;
-use account::answer::PassAnswer;
-use account::answer::Passed;
-use account::receiver::Receiver;
-use account::session::Session;
-use double::time::since;
+ghost use Rattle.model.specs.Answer.{passAnswer, done};
+ghost use Rattle.model.specs.Answer as Answer;
+ghost use Rattle.model.specs.Parts.{with-receiver};
+ghost use Rattle.model.specs.Pass as Pass;
+ghost use Rattle.model.specs.Sending.{duePackets, wrote};
+ghost use Rattle.model.specs.Command.{streamsAs};
+ghost use Rattle.model.specs.Gives.{Gives};
+use model::answer::PassAnswer;
+use model::answer::Passed;
+use model::receiver::Receiver;
+use model::session::Session;
 use receiving::queue::waits;
-use receiving::read::quiet_since;
+use receiving::read::Quiet;
+use receiving::read::not_reading;
+use receiving::read::quiet_at;
 use receiving::read::shut;
 use receiving::read::stalled;
 use sending::keepalive::send_due;
@@ -75,31 +74,29 @@ fn passed(s: Session, reading: u64, packets: &mut [u8]) -> Passed
     if waits(receiver) {
         return told(PassAnswer::Ready, s);
     }
-    let last = quiet_since(receiver);
-    let stall = receiver.stall;
-    let stall_after = s.common.settings.stall_after;
-    if stall.due(last, reading, stall_after) {
-        return read_closed(PassAnswer::SoftStall, s, stalled(receiver));
+    let settings = s.common.settings;
+    let quiet = quiet_at(receiver, reading, settings.soft_after, settings.stall_after);
+    match quiet {
+        Quiet::Soft => read_closed(PassAnswer::SoftStall, s, stalled(receiver)),
+        Quiet::Hard => read_closed(PassAnswer::HardStall, s, shut(receiver)),
+        Quiet::Short => sent(s, reading, packets),
     }
-    if since(reading, last) >= stall_after {
-        return read_closed(PassAnswer::HardStall, s, shut(receiver));
-    }
-    sent(s, reading, packets)
 }
 
 pub fn pass(s: Session, reading: u64, packets: &mut [u8]) -> Passed
     ensures { λ r. ⌜ Gives (passAnswer (r .answer)) (r .streams) (now (packets .exit)) (r .session) (Pass.pass s reading (now (packets .entry))) ⌝ }
 {
-    if not_reading(s) {
+    let receiver = s.receiver;
+    if not_reading(s.common.closed, receiver) {
         return told(PassAnswer::NotNow, s);
     }
-    if fell(s, reading) {
+    if reading < s.common.last_reading {
         return told(PassAnswer::ReadingFell, s);
     }
-    let mut next = s;
-    next.common.last_reading = reading;
     if packets.len() < PASS_LEN {
         return told(PassAnswer::NoRoom, s);
     }
+    let mut next = s;
+    next.common.last_reading = reading;
     passed(next, reading, packets)
 }

@@ -1,10 +1,10 @@
 // What a user reads off a session. None of these changes it.
 ghost use mathlib.Core.Path.{_≡_};
-ghost use Rattle.account.specs.Sending as Sending;
-ghost use Rattle.account.specs.State as State;
+ghost use Rattle.model.specs.Sending as Sending;
+ghost use Rattle.model.specs.State as State;
 ghost use Rattle.health.specs.Counters.{lossTotal};
-use account::session::Session;
 use health::InputHealthCounters;
+use model::session::Session;
 use receiving::queue::left;
 use sending::send::level;
 

@@ -2,19 +2,18 @@
 ghost use mathlib.Core.Path.{_≡_};
 ghost use mathlib.Core.List.{[]};
 ghost use Prim.Native.Nat.{min};
-ghost use Rattle.account.specs.Answer.{takeAnswer};
-ghost use Rattle.account.specs.State.{replied};
-ghost use Rattle.account.specs.Take as Take;
-ghost use Rattle.session.specs.Gives.{joined};
-use super::state::fell;
-use super::state::not_reading;
-use account::answer::Handed;
-use account::answer::TakeAnswer;
-use account::session::Session;
+ghost use Rattle.model.specs.Answer.{takeAnswer};
+ghost use Rattle.model.specs.State.{replied};
+ghost use Rattle.model.specs.Take as Take;
+ghost use Rattle.model.specs.Gives.{joined};
+use model::answer::Handed;
+use model::answer::TakeAnswer;
+use model::session::Session;
 use receiving::queue::copy_out;
 use receiving::queue::handed;
 use receiving::queue::left;
 use receiving::queue::waits;
+use receiving::read::not_reading;
 
 fn least(a: usize, b: usize) -> usize
     ensures { λ r. ⌜ r ≡ min a b ⌝ }
@@ -25,13 +24,14 @@ fn least(a: usize, b: usize) -> usize
 pub fn take(s: Session, samples: &[f32; 476], reading: u64, buffer: &mut [f32]) -> Handed
     ensures { λ r. ⌜ replied (takeAnswer (r .answer)) [] [] (now (buffer .exit)) (joined (r .session) (now (samples .entry))) ≡ Take.takeOut (joined s (now (samples .entry))) reading (now (buffer .entry)) ⌝ }
 {
-    if not_reading(s) {
+    let receiver = s.receiver;
+    if not_reading(s.common.closed, receiver) {
         return Handed {
             answer: TakeAnswer::NotNow,
             session: s,
         };
     }
-    if fell(s, reading) {
+    if reading < s.common.last_reading {
         return Handed {
             answer: TakeAnswer::ReadingFell,
             session: s,
@@ -43,7 +43,6 @@ pub fn take(s: Session, samples: &[f32; 476], reading: u64, buffer: &mut [f32]) 
             session: s,
         };
     }
-    let receiver = s.receiver;
     if !waits(receiver) {
         return Handed {
             answer: TakeAnswer::NothingWaits,

@@ -6,9 +6,9 @@ use Rattle.stall.specs.Episode.{isDue, reported, taken}
 use Rattle.stall.specs.declared.StallEpisode.{StallEpisode}
 
 -- no report is due after a report, until a delivery
-pub told-once : (e : StallEpisode) (last now hard : ℕ) → isDue (reported e) last now hard ≡ false
+pub told-once : (e : StallEpisode) (last now soft hard : ℕ) → isDue (reported e) last now soft hard ≡ false
 unfolding isDue
-told-once e last now hard = refl
+told-once e last now soft hard = refl
 
 pub taken-once : (e : StallEpisode) → taken (taken e .episode) .stalled ≡ false
 taken-once e = refl

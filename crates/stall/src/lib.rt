@@ -8,8 +8,6 @@ use double::time::since;
 pub const SOFT_STALL_AFTER: u64 = 4_500_000_000;
 
 pub struct StallEpisode {
-    // how long after the last sample the report is due, in nanoseconds
-    pub soft_after: u64,
     // samples came since the last report
     pub delivering: bool,
     // a report was made and has not been taken
@@ -22,11 +20,10 @@ pub struct Taken {
 }
 
 impl StallEpisode {
-    pub fn new(soft_after: u64) -> Self
-        ensures { λ r. ⌜ r ≡ unarmed «soft_after» ⌝ }
+    pub fn new() -> Self
+        ensures { λ r. ⌜ r ≡ unarmed ⌝ }
     {
         Self {
-            soft_after,
             delivering: false,
             pending: false,
         }
@@ -36,24 +33,23 @@ impl StallEpisode {
         ensures { λ r. ⌜ r ≡ delivered self ⌝ }
     {
         Self {
-            soft_after: self.soft_after,
             delivering: true,
             pending: self.pending,
         }
     }
 
-    // Whether the report is due now, the last sample being of the reading `last`. Where the hard deadline is not the longer
-    // one, the outage is left to it.
-    pub fn due(self, last: u64, now: u64, hard: u64) -> bool
-        ensures { λ r. ⌜ r ≡ isDue self last now hard ⌝ }
+    // Whether the report is due now, the last sample being of the reading `last`: `soft` nanoseconds after it. Where the hard
+    // deadline is not the longer one, the outage is left to it.
+    pub fn due(self, last: u64, now: u64, soft: u64, hard: u64) -> bool
+        ensures { λ r. ⌜ r ≡ isDue self last now soft hard ⌝ }
     {
         if !self.delivering {
             return false;
         }
-        if hard <= self.soft_after {
+        if hard <= soft {
             return false;
         }
-        since(now, last) >= self.soft_after
+        since(now, last) >= soft
     }
 
     // Makes the report, and none more before the next delivery.
@@ -61,7 +57,6 @@ impl StallEpisode {
         ensures { λ r. ⌜ r ≡ reported self ⌝ }
     {
         Self {
-            soft_after: self.soft_after,
             delivering: false,
             pending: true,
         }
@@ -74,7 +69,6 @@ impl StallEpisode {
         Taken {
             stalled: self.pending,
             episode: Self {
-                soft_after: self.soft_after,
                 delivering: self.delivering,
                 pending: false,
             },

@@ -1,6 +1,6 @@
 -- A stretch as it is told adds up as demand 3 says, and its highest number goes on as the whole numbers do. Assumes nothing.
 use Prim.Native.Nat.{ℕ, _+_, _-_, _*_, _%_, _≤_, _<_}
-use mathlib.Core.Path.{_≡_, refl, ap, _∙_}
+use mathlib.Core.Path.{_≡_, ap, _∙_}
 use native.Mathlib.Omega.{arith}
 use Rattle.tally.specs.Stretch.{sum, above, firstOf, moreOf, Even}
 use Rattle.tally.specs.declared.Stretch.{Stretch}

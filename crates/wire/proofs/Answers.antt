@@ -1,30 +1,19 @@
 -- An answer in 01's terms leaves no doubt which answer it was: a promise of the one determines the other. Assumes nothing.
-use Prim.Native.Nat.{ℕ}
-use mathlib.Core.Path.{_≡_, refl, sym, ap, _∙_}
-use mathlib.Core.List.{List, [], _∷_}
+use mathlib.Core.Path.{_≡_, refl}
+use mathlib.Core.List.{[], _∷_}
 use lib.Dec.{eqb}
-use Rattle.octets.specs.Pick.{pick}
-use Rattle.wire.specs.Answer.{Told, gives, refused}
+use Rattle.base.specs.Pick.{pick}
+use Rattle.base.specs.Told.{Told, gives, refused}
+use Rattle.base.proofs.Told.{apart, value}
 use Rattle.wire.specs.Iq.{iqAnswer}
 use Rattle.wire.specs.Packet.{packetAnswer}
-use Rattle.wire.specs.Rate.{rateAnswer}
 use Rattle.wire.specs.Status.{overloadAnswer}
 use Rattle.wire.specs.declared.iq.IqAnswer.{IqAnswer}
 use Rattle.wire.specs.declared.iq.IqAnswer.the-variants.{Accepted, Length, BitsPerSample, SamplesPerFrame, NoRoom}
 use Rattle.wire.specs.declared.packet.PacketAnswer.{PacketAnswer}
 use Rattle.wire.specs.declared.packet.PacketAnswer.the-variants as packet
-use Rattle.wire.specs.declared.rate.RateAnswer.{RateAnswer}
-use Rattle.wire.specs.declared.rate.RateAnswer.the-variants.{Khz, NotEncodable}
 use Rattle.wire.specs.declared.status.OverloadBits.{OverloadBits}
 use Rattle.wire.specs.declared.status.OverloadBits.the-variants.{Bits, NoBits}
-
--- a definition that can be read back tells its cases apart
-pub apart : {A B : Type 0} (told : A → B) (back : B → A) → ((r : A) → back (told r) ≡ r) → (r s : A) → told r ≡ told s → r ≡ s
-apart told back h r s e = sym (h r) ∙ ap back e ∙ h s
-
-value : List ℕ → ℕ
-value [] = 0
-value (v ∷ vs) = v
 
 iq-back : Told → IqAnswer
 iq-back (gives vs) = Accepted (value vs)
@@ -47,15 +36,6 @@ unfolding packet-back
 packet-same packet.Written = refl
 packet-same packet.NoRoom = refl
 
-rate-back : Told → RateAnswer
-rate-back (gives vs) = Khz (value vs)
-rate-back (refused k vs) = NotEncodable
-
-rate-same : (r : RateAnswer) → rate-back (rateAnswer r) ≡ r
-unfolding rate-back value
-rate-same (Khz khz) = refl
-rate-same NotEncodable = refl
-
 overload-back : Told → OverloadBits
 overload-back (gives []) = NoBits
 overload-back (gives (v ∷ vs)) = Bits v
@@ -71,9 +51,6 @@ iq-apart = apart iqAnswer iq-back iq-same
 
 pub packet-apart : (r s : PacketAnswer) → packetAnswer r ≡ packetAnswer s → r ≡ s
 packet-apart = apart packetAnswer packet-back packet-same
-
-pub rate-apart : (r s : RateAnswer) → rateAnswer r ≡ rateAnswer s → r ≡ s
-rate-apart = apart rateAnswer rate-back rate-same
 
 pub overload-apart : (r s : OverloadBits) → overloadAnswer r ≡ overloadAnswer s → r ≡ s
 overload-apart = apart overloadAnswer overload-back overload-same

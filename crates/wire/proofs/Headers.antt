@@ -8,11 +8,11 @@ use lib.Dec.{eqb, ltb}
 use lib.Ieee.{Float}
 use native.Mathlib.Omega.{arith}
 use borrow.Author.Tests.{eq-eqb, ne-eqb, eqb-true, lt-ltb, le-ltb}
-use Rattle.octets.specs.Pick.{pick}
+use Rattle.base.specs.Pick.{pick}
 use Rattle.octets.specs.Number.{beAt}
 use Rattle.octets.specs.Written.{written}
-use Rattle.octets.proofs.Picks.{pick-t, pick-f}
-use Rattle.wire.specs.Answer.{Told, gives, refused}
+use Rattle.base.proofs.Picks.{pick-t, pick-f}
+use Rattle.base.specs.Told.{Told, gives, refused}
 use Rattle.wire.specs.Iq.{samplesOf, countOf, rows, headerTold, parseTold, iqAnswer, parseOut, Parsed}
 use Rattle.wire.specs.declared.iq.IqAnswer.{IqAnswer}
 use Rattle.wire.specs.declared.iq.IqAnswer.the-variants.{Accepted, Length, BitsPerSample, SamplesPerFrame, NoRoom}

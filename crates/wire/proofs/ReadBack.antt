@@ -5,11 +5,11 @@ use mathlib.Core.Path.{_≡_}
 use lib.ListN.{length, getD}
 use native.Mathlib.Omega.{arith}
 use Rattle.octets.specs.Number.{beAt}
-use Rattle.octets.specs.Packet.{Each}
+use Rattle.base.specs.Each.{Each}
 use Rattle.octets.proofs.Packets.{length-packet, read-exact, unnamed}
 use Rattle.wire.specs.Packet.{generalFields, generalPacket, rxFields, rxPacket, txFields, txPacket, highFields, highPacket}
-use Rattle.wire.specs.declared.board.BoardInfo.{BoardInfo}
-use Rattle.wire.proofs.Sents.{run-octet}
+use Rattle.tuning.specs.declared.board.BoardInfo.{BoardInfo}
+use Rattle.wire.proofs.Writers.{run-octet}
 
 module _ (seq : ℕ) (board : BoardInfo) where
   pub general-length : length (generalPacket seq board) ≡ 60

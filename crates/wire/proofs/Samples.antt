@@ -10,7 +10,7 @@ use lib.Dec.{T, lit≤, ltb, ltb→lt, nltb→le}
 use lib.Ieee.{Float, fin, binary32, round, sub, div, ofInt, inFloat}
 use lib.Ieee.Exact.{HasValue}
 use lib.Ieee.Back.{round-whole}
-use Rattle.octets.proofs.Picks.{pick-t, pick-f}
+use Rattle.base.proofs.Picks.{pick-t, pick-f}
 use Rattle.double.proofs.Floors.{exact-fraction}
 use Rattle.double.proofs.Values.{sub-ge, sub-lt, div-of-values}
 use Rattle.wire.specs.Iq.{minus, magnitude, sampleOf}

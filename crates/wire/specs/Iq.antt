@@ -6,11 +6,11 @@ use mathlib.Core.List.{List, [], _∷_}
 use lib.ListN.{length}
 use lib.Dec.{ltb, leb, eqb}
 use lib.Ieee.{Float, binary32, round}
-use Rattle.octets.specs.Pick.{pick}
+use Rattle.base.specs.Pick.{pick}
 use Rattle.octets.specs.Table.{tab}
 use Rattle.octets.specs.Number.{beAt}
 use Rattle.octets.specs.Written.{written}
-use Rattle.wire.specs.Answer.{Told, gives, refused}
+use Rattle.base.specs.Told.{Told, gives, refused}
 use Rattle.wire.specs.declared.iq.IqAnswer.{IqAnswer}
 use Rattle.wire.specs.declared.iq.IqAnswer.the-variants.{Accepted, Length, BitsPerSample, SamplesPerFrame, NoRoom}
 

@@ -5,11 +5,11 @@ use mathlib.Core.Path.{_≡_}
 use mathlib.Core.List.{List, [], _∷_}
 use lib.ListN.{length}
 use lib.Dec.{ltb}
-use Rattle.octets.specs.Pick.{pick}
+use Rattle.base.specs.Pick.{pick}
 use Rattle.octets.specs.Written.{written}
 use Rattle.octets.specs.Packet.{Field, field, packet}
-use Rattle.wire.specs.Answer.{Told, gives, refused}
-use Rattle.wire.specs.declared.board.BoardInfo.{BoardInfo}
+use Rattle.base.specs.Told.{Told, gives, refused}
+use Rattle.tuning.specs.declared.board.BoardInfo.{BoardInfo}
 use Rattle.wire.specs.declared.packet.PacketAnswer.{PacketAnswer}
 use Rattle.wire.specs.declared.packet.PacketAnswer.the-variants.{Written, NoRoom}
 

@@ -4,8 +4,8 @@ use mathlib.Core.Bool.{Bool}
 use mathlib.Core.List.{List, [], _∷_}
 use lib.ListN.{length, getD}
 use lib.Dec.{eqb}
-use Rattle.octets.specs.Pick.{pick}
-use Rattle.wire.specs.Answer.{Told, gives}
+use Rattle.base.specs.Pick.{pick}
+use Rattle.base.specs.Told.{Told, gives}
 use Rattle.wire.specs.declared.status.OverloadBits.{OverloadBits}
 use Rattle.wire.specs.declared.status.OverloadBits.the-variants.{Bits, NoBits}
 

@@ -4,7 +4,7 @@ use native.Mathlib.Omega.{arith}
 use borrow.Author.Needs.{needs}
 use Rattle.octets.specs.Packet.{stored}
 use Rattle.octets.proofs.Packets.{singly-stored, packet-front}
-use Rattle.wire.proofs.Sents.{no-room, sent}
+use Rattle.wire.proofs.Writers.{no-room, sent}
 use Rattle.discovery.specs.Request.{requestFields, requestPacket}
 use Rattle.discovery.proofs.discovery_request_p2.Statement.{statement}
 use Rattle.discovery.proofs.discovery_request_p2.Tie as tie

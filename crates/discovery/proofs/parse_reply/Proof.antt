@@ -1,7 +1,7 @@
 -- `discovery::parse_reply` meets its contract: one return for each kind of datagram, and one for no kind. Assumes nothing.
 use mathlib.Core.Path.{sym, _∙_}
 use borrow.Author.Needs.{needs}
-use Rattle.octets.proofs.Picks.{pick-t, pick-f}
+use Rattle.base.proofs.Picks.{pick-t, pick-f}
 use Rattle.discovery.specs.Reply.{replyTold}
 use Rattle.discovery.proofs.Replies.{long-enough}
 use Rattle.discovery.proofs.parse_reply.Statement.{statement}

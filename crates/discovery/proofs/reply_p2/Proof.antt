@@ -4,7 +4,7 @@ use mathlib.Core.Path.{_≡_, _∙_}
 use mathlib.Core.List.{[], _∷_}
 use lib.ListN.{getD}
 use borrow.Author.Needs.{needs}
-use Rattle.wire.specs.Answer.{Told, gives}
+use Rattle.base.specs.Told.{Told, gives}
 use Rattle.discovery.specs.Reply.{statusNumber, toldOf, checked}
 use Rattle.discovery.proofs.Replies.{replied}
 use Rattle.discovery.proofs.reply_p2.Statement.{statement}

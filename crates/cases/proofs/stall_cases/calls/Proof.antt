@@ -7,10 +7,10 @@ use Rattle.cases.proofs.stall_cases.calls.Statement.{statement}
 use Rattle.cases.proofs.stall_cases.calls.Tie as tie
 
 abbrev Inv-loop : tie.InvT-loop
-Inv-loop soft-after p₀ e₀ i₀ p e i = (i ≤ length p₀) × (length p ≡ length p₀)
+Inv-loop p₀ e₀ i₀ p e i = (i ≤ length p₀) × (length p ≡ length p₀)
 
 abbrev μ-loop : tie.MeasureT-loop
-μ-loop soft-after p₀ e₀ i₀ p e i = length p₀ - i
+μ-loop p₀ e₀ i₀ p e i = length p₀ - i
 
 new-requires : tie.Need-new-requires Inv-loop μ-loop
 new-requires c κs = search needs

@@ -1,8 +1,8 @@
 -- `lines::argument::argument` holds what is spelt to the word's limit. Assumes nothing.
 use mathlib.Core.Path.{sym, ap, _∙_}
-use Rattle.lines.specs.Value.{upTo}
+use Rattle.values.specs.Value.{upTo}
 use Rattle.lines.specs.Argument.{argument}
-use Rattle.lines.proofs.Values.{up-to-number}
+use Rattle.values.proofs.Values.{up-to-number}
 use borrow.Author.Needs.{needs}
 use Rattle.lines.proofs.argument.argument.Statement.{statement}
 use Rattle.lines.proofs.argument.argument.Tie as tie

@@ -1,7 +1,7 @@
 -- `lines::argument::argument_as` goes by what a word is, in the definition's order. Assumes nothing.
 use mathlib.Core.Path.{refl, sym, _∙_}
 use borrow.Author.Tests.{eq-eqb, ne-eqb}
-use Rattle.octets.proofs.Picks.{pick-t, pick-f}
+use Rattle.base.proofs.Picks.{pick-t, pick-f}
 use Rattle.lines.specs.Argument.{argumentAs, octetsAs}
 use Rattle.lines.proofs.Options.{differs}
 use borrow.Author.Needs.{needs}

@@ -1,7 +1,7 @@
 -- `lines::call::address_of`: the sender's address. Assumes nothing.
 use mathlib.Core.Path.{sym, _∙_}
 use borrow.Author.Tests.{eq-eqb, ne-eqb}
-use Rattle.octets.proofs.Picks.{pick-t, pick-f}
+use Rattle.base.proofs.Picks.{pick-t, pick-f}
 use Rattle.lines.specs.Call.{addressOf}
 use borrow.Author.Needs.{needs}
 use Rattle.lines.proofs.call.address_of.Statement.{statement}

@@ -1,7 +1,7 @@
 -- `lines::call::count_of`: how many octets a datagram has. Assumes nothing.
 use mathlib.Core.Path.{sym, _∙_}
 use borrow.Author.Tests.{eq-eqb, ne-eqb}
-use Rattle.octets.proofs.Picks.{pick-t, pick-f}
+use Rattle.base.proofs.Picks.{pick-t, pick-f}
 use Rattle.lines.specs.Call.{countOf}
 use borrow.Author.Needs.{needs}
 use Rattle.lines.proofs.call.count_of.Statement.{statement}

@@ -1,7 +1,7 @@
 -- `lines::call::expected_word` names what a word was to be. Assumes nothing.
 use mathlib.Core.Path.{sym, _∙_}
 use borrow.Author.Tests.{eq-eqb, ne-eqb}
-use Rattle.octets.proofs.Picks.{pick-t, pick-f}
+use Rattle.base.proofs.Picks.{pick-t, pick-f}
 use Rattle.lines.specs.Call.{expectedWord}
 use Rattle.lines.proofs.call.expected_word.Statement.{statement}
 use Rattle.lines.proofs.call.expected_word.Tie as tie

@@ -1,7 +1,7 @@
 -- `lines::call::later_of`: an arrival's second reading. Assumes nothing.
 use mathlib.Core.Path.{sym}
 use borrow.Author.Tests.{eq-eqb, ne-eqb}
-use Rattle.octets.proofs.Picks.{pick-t, pick-f}
+use Rattle.base.proofs.Picks.{pick-t, pick-f}
 use Rattle.lines.specs.Call.{laterOf}
 use borrow.Author.Needs.{needs}
 use Rattle.lines.proofs.call.later_of.Statement.{statement}

@@ -1,7 +1,7 @@
 -- `lines::call::or_else` goes by whether the key was said. Assumes nothing.
 use mathlib.Core.Path.{sym}
 use borrow.Author.Tests.{eq-eqb, ne-eqb}
-use Rattle.octets.proofs.Picks.{pick-t, pick-f}
+use Rattle.base.proofs.Picks.{pick-t, pick-f}
 use Rattle.lines.specs.Call.{orElse}
 use borrow.Author.Needs.{needs}
 use Rattle.lines.proofs.call.or_else.Statement.{statement}

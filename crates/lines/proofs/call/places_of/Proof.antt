@@ -1,7 +1,7 @@
 -- `lines::call::places_of`: the places of a take, or the packet buffer. Assumes nothing.
 use mathlib.Core.Path.{sym, _∙_}
 use borrow.Author.Tests.{eq-eqb, ne-eqb}
-use Rattle.octets.proofs.Picks.{pick-t, pick-f}
+use Rattle.base.proofs.Picks.{pick-t, pick-f}
 use Rattle.lines.specs.Call.{placesOf}
 use borrow.Author.Needs.{needs}
 use Rattle.lines.proofs.call.places_of.Statement.{statement}

@@ -4,8 +4,8 @@ use mathlib.Core.Path.{sym, ap, _∙_}
 use lib.ListN.{getD}
 use borrow.Author.Tests.{eq-eqb, ne-eqb}
 use Rattle.octets.specs.Written.{written}
-use Rattle.octets.proofs.Picks.{pick-t, pick-f}
-use Rattle.lines.specs.Datagram.{iqOctets}
+use Rattle.base.proofs.Picks.{pick-t, pick-f}
+use Rattle.values.specs.Datagram.{iqOctets}
 use Rattle.lines.specs.Call.{orElse, octetsOf}
 use borrow.Author.Needs.{needs}
 use Rattle.lines.proofs.call.put_datagram.Statement.{statement}

@@ -1,8 +1,8 @@
 -- `lines::open::board_of`: 256 is a skipped discovery. Assumes nothing.
 use mathlib.Core.Path.{sym, ap, _∙_}
 use borrow.Author.Tests.{eq-eqb, ne-eqb}
-use Rattle.wire.specs.Board.{boardInfo}
-use Rattle.octets.proofs.Picks.{pick-t, pick-f}
+use Rattle.tuning.specs.Board.{boardInfo}
+use Rattle.base.proofs.Picks.{pick-t, pick-f}
 use Rattle.lines.specs.Open.{boardId}
 use borrow.Author.Needs.{needs}
 use Rattle.lines.proofs.open.board_of.Statement.{statement}

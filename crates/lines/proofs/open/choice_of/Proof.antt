@@ -1,7 +1,7 @@
 -- `lines::open::choice_of` names an attenuation. Assumes nothing.
 use mathlib.Core.Path.{sym, _∙_}
 use borrow.Author.Tests.{eq-eqb, ne-eqb}
-use Rattle.octets.proofs.Picks.{pick-t, pick-f}
+use Rattle.base.proofs.Picks.{pick-t, pick-f}
 use Rattle.lines.specs.Open.{choice}
 use Rattle.lines.proofs.open.choice_of.Statement.{statement}
 use Rattle.lines.proofs.open.choice_of.Tie as tie

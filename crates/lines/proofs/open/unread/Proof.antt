@@ -1,6 +1,6 @@
 -- `lines::open::unread` has the settings of an `open` that says none. Assumes nothing.
 use mathlib.Core.Path.{ap}
-use Rattle.account.specs.declared.settings.Settings.{Settings}
+use Rattle.model.specs.declared.settings.Settings.{Settings}
 use Rattle.lines.specs.declared.Read.the-variants as Read
 use Rattle.lines.specs.Open.{unreadOpening}
 use Rattle.lines.proofs.Bounds.{held-unsaid}

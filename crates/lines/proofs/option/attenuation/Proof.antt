@@ -3,7 +3,7 @@ use Prim.Native.Nat.{ℕ}
 use mathlib.Core.Path.{ap, _∙_}
 use Rattle.text.specs.Name.{place}
 use Rattle.text.specs.declared.Spelt.the-variants.{Number}
-use Rattle.lines.specs.Value.{upTo}
+use Rattle.values.specs.Value.{upTo}
 use Rattle.lines.specs.Option.{attenuation}
 use Rattle.lines.proofs.Options.{attenuation-names}
 use borrow.Author.Needs.{needs}

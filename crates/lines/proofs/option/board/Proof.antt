@@ -1,7 +1,7 @@
 -- `lines::option::board` tells a skipped discovery by its name. Assumes nothing.
 use mathlib.Core.Path.{sym, _∙_}
 use Rattle.text.proofs.Names.{same-told}
-use Rattle.octets.proofs.Picks.{pick-t, pick-f}
+use Rattle.base.proofs.Picks.{pick-t, pick-f}
 use Rattle.lines.specs.Option.{board}
 use borrow.Author.Needs.{needs}
 use Rattle.lines.proofs.option.board.Statement.{statement}

@@ -1,7 +1,7 @@
 -- `lines::option::spelt_as` goes by how a value is spelt, in the definition's order. Assumes nothing.
 use mathlib.Core.Path.{refl, sym, _∙_}
 use borrow.Author.Tests.{eq-eqb, ne-eqb}
-use Rattle.octets.proofs.Picks.{pick-t, pick-f}
+use Rattle.base.proofs.Picks.{pick-t, pick-f}
 use Rattle.lines.proofs.Options.{differs}
 use Rattle.lines.specs.Option.{speltAs, numbersAs}
 use borrow.Author.Needs.{needs}

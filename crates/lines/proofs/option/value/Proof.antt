@@ -1,8 +1,8 @@
 -- `lines::option::value` holds what is spelt to the key's limit. Assumes nothing.
 use mathlib.Core.Path.{sym, ap, _∙_}
-use Rattle.lines.specs.Value.{upTo}
+use Rattle.values.specs.Value.{upTo}
 use Rattle.lines.specs.Option.{valueOf}
-use Rattle.lines.proofs.Values.{up-to-number}
+use Rattle.values.proofs.Values.{up-to-number}
 use borrow.Author.Needs.{needs}
 use Rattle.lines.proofs.option.value.Statement.{statement}
 use Rattle.lines.proofs.option.value.Tie as tie

@@ -1,5 +1,5 @@
 -- `receiving::hear::judge` meets its contract. Assumes nothing.
-use Rattle.receiving.proofs.Reports.{judged-so}
+use Rattle.receiving.proofs.Hearings.{judged-so}
 use borrow.Author.Needs.{needs}
 use Rattle.receiving.proofs.hear.judge.Statement.{statement}
 use Rattle.receiving.proofs.hear.judge.Tie as tie
@@ -10,8 +10,8 @@ unaccounted-requires c κs = search needs
 observe-requires : tie.Need-observe-requires
 observe-requires c κs = search needs
 
-plausible-lost-datagrams-requires : tie.Need-plausible-lost-datagrams-requires
-plausible-lost-datagrams-requires c κs = search needs
+jump-limit-requires : tie.Need-jump-limit-requires
+jump-limit-requires c κs = search needs
 
 capped-requires : tie.Need-capped-requires
 capped-requires c κs = search needs
@@ -21,7 +21,7 @@ note-valid-requires c κs = search needs
 
 returns : tie.Need-returns
 returns c = let a = c .before .before .before .before .before .before .before .before .args in
-    judged-so (a .rate) (a .r) (a .now) (a .count) _ _ _ _ _ (c .before .before .before .before .before .before .unaccounted .ensures) (c .before .before .plausible-lost-datagrams .ensures) (c .before .before .before .before .observe .ensures)
+    judged-so (a .rate) (a .r) (a .now) (a .count) _ _ _ _ _ (c .before .before .before .before .before .before .unaccounted .ensures) (c .before .before .jump-limit .ensures) (c .before .before .before .before .observe .ensures)
     (c .before .capped .ensures) (c .note-valid .ensures)
 
 pub judge-spec : {M : Type 1} → statement M
@@ -30,7 +30,7 @@ judge-spec =
     (tie.spec
     unaccounted-requires
     observe-requires
-    plausible-lost-datagrams-requires
+    jump-limit-requires
     capped-requires
     note-valid-requires
     returns)

@@ -1,6 +1,6 @@
 -- `receiving::queue::left` meets its contract. Assumes nothing.
 use native.Mathlib.Omega.{arith}
-use Rattle.account.specs.State as State
+use Rattle.model.specs.State as State
 use borrow.Author.Needs.{needs}
 use Rattle.receiving.proofs.queue.left.Statement.{statement}
 use Rattle.receiving.proofs.queue.left.Tie as tie

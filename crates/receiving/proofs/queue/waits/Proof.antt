@@ -1,7 +1,7 @@
 -- `receiving::queue::waits` meets its contract. Assumes nothing.
 use mathlib.Core.Path.{ap}
 use lib.Dec.{ltb}
-use Rattle.account.specs.State as State
+use Rattle.model.specs.State as State
 use borrow.Author.Needs.{needs}
 use Rattle.receiving.proofs.queue.waits.Statement.{statement}
 use Rattle.receiving.proofs.queue.waits.Tie as tie

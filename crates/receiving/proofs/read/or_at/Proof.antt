@@ -1,5 +1,5 @@
 -- `receiving::read::or_at` meets its contract. Assumes nothing.
-use Rattle.account.specs.Begin.{orAt}
+use Rattle.model.specs.Begin.{orAt}
 use borrow.Author.Needs.{needs}
 use Rattle.receiving.proofs.read.or_at.Statement.{statement}
 use Rattle.receiving.proofs.read.or_at.Tie as tie

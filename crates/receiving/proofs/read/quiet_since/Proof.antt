@@ -1,5 +1,5 @@
 -- `receiving::read::quiet_since` meets its contract. Assumes nothing.
-use Rattle.receiving.proofs.Times.{no-anchor, anchor-later, anchor-earlier}
+use Rattle.receiving.proofs.Quiets.{no-anchor, anchor-later, anchor-earlier}
 use borrow.Author.Needs.{needs}
 use Rattle.receiving.proofs.read.quiet_since.Statement.{statement}
 use Rattle.receiving.proofs.read.quiet_since.Tie as tie

@@ -1,6 +1,6 @@
 -- `replay::run::carry_on` meets its contract. Assumes nothing.
-use Rattle.session.specs.Gives.{joined}
-use Rattle.replay.specs.Runs.{lentBy}
+use Rattle.model.specs.Gives.{joined}
+use Rattle.encoding.specs.Lists.{lentBy}
 use Rattle.replay.proofs.Replays.{ran-told, refused-list, run-list}
 use borrow.Author.Needs.{needs}
 use Rattle.replay.proofs.run.carry_on.Statement.{statement}

@@ -1,7 +1,7 @@
 -- `replay::run::replay` meets its contract. Assumes nothing.
 use mathlib.Core.Path.{_≡_}
 use lib.ListN.{length}
-use Rattle.replay.specs.Runs.{lentBy}
+use Rattle.encoding.specs.Lists.{lentBy}
 use Rattle.replay.proofs.Replays.{not-opened, replays}
 use borrow.Author.Needs.{needs}
 use Rattle.replay.proofs.run.replay.Statement.{statement}

@@ -3,11 +3,11 @@ use Prim.Native.Nat.{_-_, _/_, _≤_, _<_}
 use mathlib.Core.Path.{_≡_, refl, sym, ap, subst, _∙_}
 use lib.ListN.{length}
 use native.Mathlib.Omega.{arith}
-use Rattle.session.specs.Gives.{joined}
-use Rattle.replay.specs.Encoding.{isCall, Within}
-use Rattle.replay.specs.Runs.{lentBy, room}
-use Rattle.replay.specs.declared.words.Amounts.{Amounts}
-use Rattle.replay.proofs.Checks.{lengths, now-taken}
+use Rattle.model.specs.Gives.{joined}
+use Rattle.encoding.specs.Words.{isCall, Within}
+use Rattle.encoding.specs.Lists.{lentBy, room}
+use Rattle.encoding.specs.declared.words.Amounts.{Amounts}
+use Rattle.encoding.proofs.Checks.{lengths, now-taken}
 use Rattle.replay.proofs.Walks.{Done, at-first, is-call, has-room, turned, ran}
 use borrow.Author.Needs.{needs}
 use Rattle.replay.proofs.run.run.Statement.{statement}

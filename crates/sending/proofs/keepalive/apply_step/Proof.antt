@@ -1,9 +1,9 @@
 -- `sending::keepalive::apply_step` meets its contract. Assumes nothing.
 use mathlib.Core.Path.{ap, sym}
 use Rattle.attenuator.specs.declared.AttenuationStep.{AttenuationStep}
-use Rattle.account.specs.Sending as Sending
-use Rattle.account.specs.Parts.{with-attenuator}
-use Rattle.account.specs.declared.session.Attenuation.the-variants.{On}
+use Rattle.model.specs.Sending as Sending
+use Rattle.model.specs.Parts.{with-attenuator}
+use Rattle.model.specs.declared.session.Attenuation.the-variants.{On}
 use Rattle.sending.proofs.Progresses.{sends-as, sends-set, sends-from}
 use borrow.Author.Needs.{needs}
 use Rattle.sending.proofs.keepalive.apply_step.Statement.{statement}

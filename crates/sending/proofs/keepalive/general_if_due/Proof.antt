@@ -1,6 +1,6 @@
 -- `sending::keepalive::general_if_due` meets its contract. Assumes nothing.
-use Rattle.account.specs.Sending as Sending
-use Rattle.account.proofs.Tests.{due, not-due}
+use Rattle.model.specs.Sending as Sending
+use Rattle.base.proofs.Tests.{due, not-due}
 use Rattle.sending.proofs.Progresses.{sends-due, sends-idle, sends-from}
 use borrow.Author.Needs.{needs}
 use Rattle.sending.proofs.keepalive.general_if_due.Statement.{statement}

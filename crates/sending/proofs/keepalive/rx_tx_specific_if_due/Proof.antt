@@ -1,10 +1,10 @@
 -- `sending::keepalive::rx_tx_specific_if_due` meets its contract. Assumes nothing.
 use mathlib.Core.Bool.{true}
-use Rattle.account.specs.Sending as Sending
-use Rattle.account.specs.declared.session.Common.{Common}
-use Rattle.account.specs.declared.stream.Stream.the-variants.{RxSpecific, TxSpecific}
-use Rattle.account.proofs.Room.{send-within}
-use Rattle.account.proofs.Tests.{due, not-due}
+use Rattle.model.specs.Sending as Sending
+use Rattle.model.specs.declared.session.Common.{Common}
+use Rattle.model.specs.declared.command.Stream.the-variants.{RxSpecific, TxSpecific}
+use Rattle.model.proofs.Room.{send-within}
+use Rattle.base.proofs.Tests.{due, not-due}
 use Rattle.sending.proofs.Progresses.{room-after, sends-due, sends-idle, sends-then, sends-from}
 use borrow.Author.Needs.{needs}
 use Rattle.sending.proofs.keepalive.rx_tx_specific_if_due.Statement.{statement}

@@ -1,7 +1,7 @@
 -- `sending::keepalive::send_due` meets its contract. Assumes nothing.
-use Rattle.account.specs.Sending as Sending
-use Rattle.account.specs.declared.session.Common.{Common}
-use Rattle.account.proofs.Room.{keepalive-within, tick-within}
+use Rattle.model.specs.Sending as Sending
+use Rattle.model.specs.declared.session.Common.{Common}
+use Rattle.model.proofs.Room.{keepalive-within, tick-within}
 use Rattle.sending.proofs.Progresses.{room-after, sends-then}
 use borrow.Author.Needs.{needs}
 use Rattle.sending.proofs.keepalive.send_due.Statement.{statement}

@@ -1,8 +1,8 @@
 -- `sending::keepalive::send_high_priority` meets its contract. Assumes nothing.
 use mathlib.Core.Bool.{true}
-use Rattle.account.specs.Sending as Sending
-use Rattle.account.specs.Parts.{with-clocks, with-high-priority}
-use Rattle.account.specs.declared.stream.Stream.the-variants.{HighPriority}
+use Rattle.model.specs.Sending as Sending
+use Rattle.model.specs.Parts.{with-clocks, with-high-priority}
+use Rattle.model.specs.declared.command.Stream.the-variants.{HighPriority}
 use Rattle.sending.proofs.Progresses.{sends-from}
 use borrow.Author.Needs.{needs}
 use Rattle.sending.proofs.keepalive.send_high_priority.Statement.{statement}

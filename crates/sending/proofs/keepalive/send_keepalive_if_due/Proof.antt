@@ -1,9 +1,9 @@
 -- `sending::keepalive::send_keepalive_if_due` meets its contract: three steps, one after the other. Assumes nothing.
 use native.Mathlib.Omega.{arith}
 use lib.ListN.{length}
-use Rattle.account.specs.Sending as Sending
-use Rattle.account.specs.declared.session.Common.{Common}
-use Rattle.account.proofs.Room.{high-due-within, rx-tx-due-within, general-due-within, then-within}
+use Rattle.model.specs.Sending as Sending
+use Rattle.model.specs.declared.session.Common.{Common}
+use Rattle.model.proofs.Room.{high-due-within, rx-tx-due-within, general-due-within, then-within}
 use Rattle.sending.specs.Progress.{HasRoom}
 use Rattle.sending.proofs.Progresses.{room-after, room-less, sends-then}
 use borrow.Author.Needs.{needs}

@@ -1,8 +1,8 @@
 -- `sending::keepalive::tick_attenuation` meets its contract. Assumes nothing.
 use mathlib.Core.Path.{ap, sym, _∙_}
 use Rattle.attenuator.specs.declared.Stepped.{Stepped}
-use Rattle.account.specs.Sending as Sending
-use Rattle.account.specs.declared.session.Attenuation.{Attenuation}
+use Rattle.model.specs.Sending as Sending
+use Rattle.model.specs.declared.session.Attenuation.{Attenuation}
 use Rattle.sending.proofs.Progresses.{sends-as, sends-none}
 use borrow.Author.Needs.{needs}
 use Rattle.sending.proofs.keepalive.tick_attenuation.Statement.{statement}

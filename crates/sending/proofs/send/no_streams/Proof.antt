@@ -1,6 +1,6 @@
 -- `sending::send::no_streams` meets its contract. Assumes nothing.
 use mathlib.Core.Path.{refl}
-use Rattle.account.specs.Stream.{streamsAs}
+use Rattle.model.specs.Command.{streamsAs}
 use Rattle.sending.proofs.send.no_streams.Statement.{statement}
 use Rattle.sending.proofs.send.no_streams.Tie as tie
 

@@ -1,6 +1,6 @@
 -- `sending::send::send` meets its contract: one packet behind the last. Assumes nothing.
 use native.Mathlib.Omega.{arith}
-use Rattle.account.proofs.Room.{packet-size}
+use Rattle.model.proofs.Room.{packet-size}
 use Rattle.sending.proofs.Progresses.{offset-small, sent-packet}
 use borrow.Author.Needs.{needs}
 use Rattle.sending.proofs.send.send.Statement.{statement}

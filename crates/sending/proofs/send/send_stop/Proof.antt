@@ -1,9 +1,9 @@
 -- `sending::send::send_stop` meets its contract. Assumes nothing.
 use mathlib.Core.Bool.{false}
-use Rattle.account.specs.Sending as Sending
-use Rattle.account.specs.declared.session.Common.{Common}
-use Rattle.account.specs.declared.stream.Stream.the-variants.{HighPriority}
-use Rattle.account.proofs.Room.{send-within}
+use Rattle.model.specs.Sending as Sending
+use Rattle.model.specs.declared.session.Common.{Common}
+use Rattle.model.specs.declared.command.Stream.the-variants.{HighPriority}
+use Rattle.model.proofs.Room.{send-within}
 use Rattle.sending.proofs.Progresses.{room-after, sends-then}
 use borrow.Author.Needs.{needs}
 use Rattle.sending.proofs.send.send_stop.Statement.{statement}

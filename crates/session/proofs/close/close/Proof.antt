@@ -2,10 +2,10 @@
 use mathlib.Core.Path.{_∙_}
 use lib.ListN.{length}
 use borrow.Author.Tests.{lt-ltb, le-ltb}
-use Rattle.octets.proofs.Picks.{pick-t, pick-f}
-use Rattle.account.specs.Close as Close
-use Rattle.account.specs.declared.answer.CloseAnswer.the-variants.{NotNow, NoRoom}
-use Rattle.session.proofs.Givings.{ended-told, gives-as}
+use Rattle.base.proofs.Picks.{pick-t, pick-f}
+use Rattle.model.specs.Close as Close
+use Rattle.model.specs.declared.answer.CloseAnswer.the-variants.{NotNow, NoRoom}
+use Rattle.sending.proofs.Givings.{ended-told, gives-as}
 use borrow.Author.Needs.{needs}
 use Rattle.session.proofs.close.close.Statement.{statement}
 use Rattle.session.proofs.close.close.Tie as tie

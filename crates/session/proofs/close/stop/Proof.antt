@@ -1,8 +1,8 @@
 -- `session::close::stop` meets its contract. Assumes nothing.
 use native.Mathlib.Omega.{arith}
-use Rattle.account.specs.Sending as Sending
-use Rattle.account.proofs.Room.{stop-within}
-use Rattle.session.proofs.Givings.{start-room, from-start}
+use Rattle.model.specs.Sending as Sending
+use Rattle.model.proofs.Room.{stop-within}
+use Rattle.sending.proofs.Givings.{start-room, from-start}
 use Rattle.session.proofs.Passes.{stopped}
 use borrow.Author.Needs.{needs}
 use Rattle.session.proofs.close.stop.Statement.{statement}

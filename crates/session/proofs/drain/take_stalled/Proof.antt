@@ -1,5 +1,5 @@
 -- `session::drain::take_stalled` meets its contract. Assumes nothing.
-use Rattle.account.specs.Drain as Drain
+use Rattle.model.specs.Drain as Drain
 use borrow.Author.Needs.{needs}
 use Rattle.session.proofs.drain.take_stalled.Statement.{statement}
 use Rattle.session.proofs.drain.take_stalled.Tie as tie

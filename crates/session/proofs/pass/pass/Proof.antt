@@ -2,11 +2,11 @@
 use mathlib.Core.Path.{_∙_}
 use lib.ListN.{length}
 use borrow.Author.Tests.{lt-ltb, le-ltb}
-use Rattle.octets.proofs.Picks.{pick-t, pick-f}
-use Rattle.account.proofs.Tests.{was}
-use Rattle.account.specs.Pass as Pass
-use Rattle.account.specs.declared.answer.PassAnswer.the-variants.{NotNow, ReadingFell, NoRoom}
-use Rattle.session.proofs.Givings.{passed-told, gives-as}
+use Rattle.base.proofs.Picks.{pick-t, pick-f}
+use Rattle.base.proofs.Tests.{was}
+use Rattle.model.specs.Pass as Pass
+use Rattle.model.specs.declared.answer.PassAnswer.the-variants.{NotNow, ReadingFell, NoRoom}
+use Rattle.sending.proofs.Givings.{passed-told, gives-as}
 use borrow.Author.Needs.{needs}
 use Rattle.session.proofs.pass.pass.Statement.{statement}
 use Rattle.session.proofs.pass.pass.Tie as tie
@@ -19,17 +19,14 @@ told-requires c κs = search needs
 
 returns : tie.Need-returns
 unfolding Pass.pass
-returns c = let a = c .before .before .before .before .args in passed-told (a .s) (a .packets .now) _ NotNow _ (c .told .ensures) (pick-t _ _ _ (was (c .before .before .not-reading .ensures) (c .before .if1 .taken)))
-
-fell-requires : tie.Need-fell-requires
-fell-requires c κs = search needs
+returns c = let a = c .before .before .before .before .before .args in passed-told (a .s) (a .packets .now) _ NotNow _ (c .told .ensures) (pick-t _ _ _ (was (c .before .before .not-reading .ensures) (c .before .if1 .taken)))
 
 told-requires-2 : tie.Need-told-requires-2
 told-requires-2 c κs = search needs
 
 returns-2 : tie.Need-returns-2
 unfolding Pass.pass
-returns-2 c = let a = c .before .before .before .before .before .before .args in passed-told (a .s) (a .packets .now) _ ReadingFell _ (c .told2 .ensures) (pick-f _ _ _ (was (c .before .before .before .before .not-reading .ensures) (c .before .before .before .if1 .left)) ∙ pick-t _ _ _ (was (c .before .before .fell .ensures) (c .before .if2 .taken)))
+returns-2 c = let a = c .before .before .before .before .before .before .before .args in passed-told (a .s) (a .packets .now) _ ReadingFell _ (c .told2 .ensures) (pick-f _ _ _ (was (c .before .before .before .before .not-reading .ensures) (c .before .before .before .if1 .left)) ∙ pick-t _ _ _ (lt-ltb _ _ (c .before .if2 .taken)))
 
 told-requires-3 : tie.Need-told-requires-3
 told-requires-3 c κs = search needs
@@ -38,7 +35,7 @@ returns-3 : tie.Need-returns-3
 unfolding Pass.pass
 returns-3 c = let a = c .before .before .before .before .before .before .before .before .args in
     passed-told (a .s) (a .packets .now) _ NoRoom _ (c .told3 .ensures)
-    (pick-f _ _ _ (was (c .before .before .before .before .before .before .not-reading .ensures) (c .before .before .before .before .before .if1 .left)) ∙ pick-f _ _ _ (was (c .before .before .before .before .fell .ensures) (c .before .before .before .if2 .left))
+    (pick-f _ _ _ (was (c .before .before .before .before .before .not-reading .ensures) (c .before .before .before .before .if1 .left)) ∙ pick-f _ _ _ (le-ltb _ _ (c .before .before .if2 .left))
     ∙ pick-t _ _ _ (lt-ltb (length (a .packets .now)) 4452 (c .before .if3 .taken)))
 
 passed-requires : tie.Need-passed-requires
@@ -49,10 +46,10 @@ same-length c = search needs
 
 returns-4 : tie.Need-returns-4
 unfolding Pass.pass
-returns-4 c = let a = c .before .before .before .before .before .before .before .before .before .before .before .args in
+returns-4 c = let a = c .before .before .before .before .before .before .before .before .before .before .before .before .args in
     gives-as _ _ _ _ _ _
-    (pick-f _ _ _ (was (c .before .before .before .before .before .before .before .before .before .not-reading .ensures) (c .before .before .before .before .before .before .before .before .if1 .left)) ∙ pick-f _ _ _ (was (c .before .before .before .before .before .before .before .fell .ensures) (c .before .before .before .before .before .before .if2 .left))
-    ∙ pick-f _ _ _ (le-ltb (length (a .packets .now)) 4452 (c .before .before .before .before .if3 .left)))
+    (pick-f _ _ _ (was (c .before .before .before .before .before .before .before .before .before .not-reading .ensures) (c .before .before .before .before .before .before .before .before .if1 .left)) ∙ pick-f _ _ _ (le-ltb _ _ (c .before .before .before .before .before .before .if2 .left))
+    ∙ pick-f _ _ _ (le-ltb (length (a .packets .now)) 4452 (c .before .before .before .before .before .if3 .left)))
     (c .before .before .passed .ensures)
 
 pub pass-spec : {M : Type 1} → statement M
@@ -62,7 +59,6 @@ pass-spec =
     not-reading-requires
     told-requires
     returns
-    fell-requires
     told-requires-2
     returns-2
     told-requires-3

@@ -1,11 +1,11 @@
 -- `session::pass::sent` meets its contract. Assumes nothing.
 use mathlib.Core.Path.{refl}
 use native.Mathlib.Omega.{arith}
-use Rattle.account.specs.Answer.{done}
-use Rattle.account.specs.Answer as Answer
-use Rattle.account.specs.Sending as Sending
-use Rattle.account.proofs.Room.{due-within}
-use Rattle.session.proofs.Givings.{start-room, gives-wrote}
+use Rattle.model.specs.Answer.{done}
+use Rattle.model.specs.Answer as Answer
+use Rattle.model.specs.Sending as Sending
+use Rattle.model.proofs.Room.{due-within}
+use Rattle.sending.proofs.Givings.{start-room, gives-wrote}
 use borrow.Author.Needs.{needs}
 use Rattle.session.proofs.pass.sent.Statement.{statement}
 use Rattle.session.proofs.pass.sent.Tie as tie

@@ -17,9 +17,9 @@ returns c =
 returns-2 : tie.Need-returns-2
 unfolding isDue
 returns-2 c =
-    let a = c .before .before .before .before .args in
+    let a = c .before .before .before .args in
     let e = a .self in
-    rw (not-false (e .delivering) (c .before .before .if1 .left)) (rw (le-ltb (e .«soft_after») (a .hard) (omega arith)))
+    rw (not-false (e .delivering) (c .before .if1 .left)) (rw (le-ltb (a .soft) (a .hard) (omega arith)))
 
 since-requires : tie.Need-since-requires
 since-requires c κs = search needs
@@ -27,10 +27,10 @@ since-requires c κs = search needs
 returns-3 : tie.Need-returns-3
 unfolding isDue
 returns-3 c =
-    let a = c .before .before .before .before .before .before .args in
+    let a = c .before .before .before .before .args in
     let e = a .self in
-    rw (not-false (e .delivering) (c .before .before .before .before .if1 .left))
-    (rw (lt-ltb (e .«soft_after») (a .hard) (omega arith)) (ap (leb (e .«soft_after»)) (c .before .since .ensures)))
+    rw (not-false (e .delivering) (c .before .before .if1 .left))
+    (rw (lt-ltb (a .soft) (a .hard) (omega arith)) (ap (leb (a .soft)) (c .since .ensures)))
 
 pub due-spec : {M : Type 1} → statement M
 due-spec = tie.close (tie.spec returns returns-2 since-requires returns-3)

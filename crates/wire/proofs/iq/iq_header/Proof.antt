@@ -2,7 +2,7 @@
 use mathlib.Core.Path.{sym, ap, _∙_}
 use Prim.Native.Nat.{ℕ}
 use mathlib.Core.List.{[], _∷_}
-use Rattle.wire.specs.Answer.{gives, refused}
+use Rattle.base.specs.Told.{gives, refused}
 use Rattle.wire.specs.Iq.{countOf, headerTold}
 use Rattle.wire.proofs.Headers.{row-7, row-8, row-9, past}
 use borrow.Author.Needs.{needs}

@@ -5,7 +5,7 @@ use native.Mathlib.Omega.{arith}
 use types.Run.{OneOf, miss}
 use denote.Enum.Declared.{tagOf}
 use Rattle.wire.proofs.iq.IqAnswer.{the-type}
-use Rattle.wire.specs.Answer.{gives}
+use Rattle.base.specs.Told.{gives}
 use Rattle.wire.specs.Iq.{iqAnswer, headerTold}
 use Rattle.wire.specs.declared.iq.IqAnswer.{IqAnswer}
 use Rattle.wire.proofs.Headers.{right-header, parsed-bad, parsed-no-room, parsed-count}

@@ -6,7 +6,7 @@ use borrow.Author.Needs.{needs}
 use Rattle.octets.specs.Packet.{field}
 use Rattle.octets.proofs.Packets.{singly-stored}
 use Rattle.wire.specs.Packet.{generalPacket}
-use Rattle.wire.proofs.Sents.{no-room, sent-fields}
+use Rattle.wire.proofs.Writers.{no-room, sent-fields}
 use Rattle.wire.proofs.packet.general_packet.Statement.{statement}
 use Rattle.wire.proofs.packet.general_packet.Tie as tie
 

@@ -10,7 +10,7 @@ use borrow.Author.Needs.{needs}
 use Rattle.octets.specs.Packet.{field, stored}
 use Rattle.octets.proofs.Writes.{set-be}
 use Rattle.wire.specs.Packet.{highPacket}
-use Rattle.wire.proofs.Sents.{no-room, sent-fields, run-octet}
+use Rattle.wire.proofs.Writers.{no-room, sent-fields, run-octet}
 use Rattle.wire.proofs.packet.high_priority_packet.Statement.{statement}
 use Rattle.wire.proofs.packet.high_priority_packet.Tie as tie
 

@@ -8,7 +8,7 @@ use Rattle.octets.specs.Packet.{field, stored}
 use Rattle.octets.proofs.Writes.{set-be}
 use Rattle.octets.proofs.Packets.{singly-stored}
 use Rattle.wire.specs.Packet.{rxPacket}
-use Rattle.wire.proofs.Sents.{no-room, sent-fields}
+use Rattle.wire.proofs.Writers.{no-room, sent-fields}
 use Rattle.wire.proofs.packet.rx_specific_packet.Statement.{statement}
 use Rattle.wire.proofs.packet.rx_specific_packet.Tie as tie
 

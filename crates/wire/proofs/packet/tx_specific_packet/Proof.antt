@@ -5,7 +5,7 @@ use borrow.Author.Needs.{needs}
 use Rattle.octets.specs.Packet.{field}
 use Rattle.octets.proofs.Packets.{singly-stored}
 use Rattle.wire.specs.Packet.{txPacket}
-use Rattle.wire.proofs.Sents.{no-room, sent-fields}
+use Rattle.wire.proofs.Writers.{no-room, sent-fields}
 use Rattle.wire.proofs.packet.tx_specific_packet.Statement.{statement}
 use Rattle.wire.proofs.packet.tx_specific_packet.Tie as tie
 

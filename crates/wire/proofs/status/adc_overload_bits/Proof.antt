@@ -4,7 +4,7 @@ use lib.ListN.{length}
 use native.Mathlib.Omega.{arith}
 use borrow.Author.Needs.{needs}
 use borrow.Author.Tests.{eq-eqb, ne-eqb}
-use Rattle.octets.proofs.Picks.{pick-t, pick-f}
+use Rattle.base.proofs.Picks.{pick-t, pick-f}
 use Rattle.wire.specs.Status.{overloadTold}
 use Rattle.wire.proofs.status.adc_overload_bits.Statement.{statement}
 use Rattle.wire.proofs.status.adc_overload_bits.Tie as tie

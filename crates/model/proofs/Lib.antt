@@ -1,0 +1,12 @@
+-- Answers and refusals, what every call keeps, and the cases: a file imports only what stands above it here.
+pub mod Answers
+pub mod Rows
+pub mod Refusals
+pub mod Room
+pub mod Traces
+pub mod Pairs
+pub mod Sends
+-- trials of the definitions
+pub mod Lists
+pub mod Edges
+pub mod Worked

@@ -1,0 +1,26 @@
+-- Close: run is turned off, by two high priority packets. What waits and what is pending stays. Definitions only.
+use Prim.Native.Nat.{ℕ}
+use mathlib.Core.Bool.{true}
+use mathlib.Core.List.{List, []}
+use lib.ListN.{length}
+use lib.Dec.{ltb}
+use Rattle.base.specs.Pick.{pick}
+use Rattle.octets.specs.Written.{written}
+use Rattle.model.specs.Answer.{done, closed}
+use Rattle.model.specs.Host.{Step}
+use Rattle.model.specs.State.{replied, refuse}
+use Rattle.model.specs.Sending.{stopPackets}
+use Rattle.model.specs.Parts.{with-common, with-closed}
+use Rattle.model.specs.declared.session.Session.{Session}
+
+-- nothing else changes: the queue, the slots and the stall flag stay, and no clock moves
+unfoldable pub stop : Session → List ℕ → Step Session
+stop s d =
+    let out = stopPackets (s .common) in
+    replied (done closed) (out .streams) (written d 0 (out .octets)) [] (with-common s (with-closed (out .common) true))
+
+unfoldable pub close : Session → List ℕ → Step Session
+close s d =
+    pick (s .common .closed) (refuse 10 d [] s)
+    (pick (ltb (length d) 2888) (refuse 15 d [] s)
+    (stop s d))

@@ -1,0 +1,3 @@
+-- The laws behind Open: a file imports only what stands above it here.
+pub mod Settled
+pub mod Openings

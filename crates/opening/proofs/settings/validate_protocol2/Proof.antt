@@ -1,0 +1,72 @@
+-- `opening::settings::validate_protocol2` meets its contract: the rows in order. Assumes nothing.
+use mathlib.Core.Path.{_≡_, ap}
+use mathlib.Core.Bool.{true}
+use Rattle.base.proofs.Tests.{was}
+use borrow.Author.Tests.{not-true, not-false}
+use Rattle.tuning.specs.Rate.{isRate, khzOf, rateAnswer}
+use Rattle.tuning.proofs.Rates.{given-khz, refused-rate}
+use Rattle.opening.proofs.Settled.{row-1, row-2, row-3, row-4, row-5, row-6, no-row}
+use borrow.Author.Needs.{needs}
+use Rattle.opening.proofs.settings.validate_protocol2.Statement.{statement}
+use Rattle.opening.proofs.settings.validate_protocol2.Tie as tie
+
+returns : tie.Need-returns
+returns c = row-1 (c .before .before .args .s) (c .if1 .taken)
+
+returns-2 : tie.Need-returns-2
+returns-2 c = row-2 (c .before .before .before .before .args .s) (c .before .before .if1 .left) (c .if2 .taken)
+
+rate-khz-requires : tie.Need-rate-khz-requires
+rate-khz-requires c κs = search needs
+
+enum-known-rate : tie.Need-enum-known-rate
+enum-known-rate c = search needs
+
+enum-told : tie.Need-enum-told
+enum-told c = search needs
+
+returns-3 : tie.Need-returns-3
+returns-3 c = row-3 (c .before .before .before .before .before .before .before .args .s) (c .before .before .before .before .before .if1 .left) (c .before .before .before .if2 .left) (refused-rate (c .before .before .before .before .before .before .before .args .s .«sample_rate_hz») (was (ap rateAnswer (c .enum-told .given .1)) (c .before .before .rate-khz .ensures)))
+
+whole-centre-requires : tie.Need-whole-centre-requires
+whole-centre-requires c κs = search needs
+
+-- what the rate is, where it gave its kHz
+rated : (c : tie.After-known-told)
+    → (isRate (c .before .before .before .before .before .before .before .before .args .s .«sample_rate_hz») ≡ true)
+    × (c .before .rate .given .0 .0 ≡ khzOf (c .before .before .before .before .before .before .before .before .args .s .«sample_rate_hz»))
+rated c = given-khz _ _ (was (ap rateAnswer (c .before .rate .given .1)) (c .before .before .before .rate-khz .ensures))
+
+returns-4 : tie.Need-returns-4
+returns-4 c = row-4 (c .before .before .before .before .before .before .before .before .before .before .args .s) (c .before .before .before .before .before .before .before .before .if1 .left) (c .before .before .before .before .before .before .if2 .left) (rated (c .before .before) .0) (was (c .before .whole-centre .ensures) (not-true _ (c .if3 .taken)))
+
+below-nyquist-requires : tie.Need-below-nyquist-requires
+below-nyquist-requires c κs = search needs
+
+returns-5 : tie.Need-returns-5
+returns-5 c = row-5 (c .before .before .before .before .before .before .before .before .before .before .before .before .args .s) (c .before .before .before .before .before .before .before .before .before .before .if1 .left) (c .before .before .before .before .before .before .before .before .if2 .left) (rated (c .before .before .before .before) .0) (was (c .before .before .before .whole-centre .ensures) (not-false _ (c .before .before .if3 .left))) (was (c .before .below-nyquist .ensures) (not-true _ (c .if4 .taken)))
+
+returns-6 : tie.Need-returns-6
+returns-6 c = row-6 (c .before .before .before .before .before .before .before .before .before .before .before .before .before .before .args .s) (c .before .before .before .before .before .before .before .before .before .before .before .before .if1 .left) (c .before .before .before .before .before .before .before .before .before .before .if2 .left) (rated (c .before .before .before .before .before .before) .0) (was (c .before .before .before .before .before .whole-centre .ensures) (not-false _ (c .before .before .before .before .if3 .left)))
+    (was (c .before .before .before .below-nyquist .ensures) (not-false _ (c .before .before .if4 .left))) (c .if5 .taken)
+
+returns-7 : tie.Need-returns-7
+returns-7 c = no-row (c .before .before .before .before .before .before .before .before .before .before .before .before .before .before .args .s) (c .before .before .before .before .before .before .before .before .before .before .before .before .if1 .left) (c .before .before .before .before .before .before .before .before .before .before .if2 .left) (rated (c .before .before .before .before .before .before) .0) (was (c .before .before .before .before .before .whole-centre .ensures) (not-false _ (c .before .before .before .before .if3 .left)))
+    (was (c .before .before .before .below-nyquist .ensures) (not-false _ (c .before .before .if4 .left))) _ (c .if5 .left) (rated (c .before .before .before .before .before .before) .1)
+
+pub validate-protocol2-spec : {M : Type 1} → statement M
+validate-protocol2-spec =
+    tie.close
+    (tie.spec
+    returns
+    returns-2
+    rate-khz-requires
+    enum-known-rate
+    enum-told
+    returns-3
+    whole-centre-requires
+    returns-4
+    below-nyquist-requires
+    returns-5
+    returns-6
+    returns-7)

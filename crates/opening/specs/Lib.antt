@@ -1,0 +1,2 @@
+-- The definitions that the contracts of `opening` cite beside model's.
+pub mod Opens

@@ -1,0 +1,3 @@
+-- The laws of `sequence`.
+pub mod Meanings
+pub mod Edges
