@@ -7,13 +7,50 @@ ghost use Rattle.encoding.specs.Words as Encoding;
 // The numbers of a call. Those that its kind has no use for are not read.
 pub const CALL_LEN: usize = 8;
 
+// Where each stands.
+pub const KIND: usize = 0;
+
+pub const READING: usize = 1;
+
+pub const LATER: usize = 2;
+
+pub const ADDRESS: usize = 3;
+
+pub const PORT: usize = 4;
+
+pub const OCTETS: usize = 5;
+
+pub const NUMBERS: usize = 6;
+
+pub const PLACES: usize = 7;
+
+// The kinds.
+pub const BEGIN: u64 = 0;
+
+pub const PASS: u64 = 1;
+
+pub const ARRIVAL: u64 = 2;
+
+pub const TAKE: u64 = 3;
+
+pub const CLOSE: u64 = 4;
+
+pub const TAKE_MISSING: u64 = 5;
+
+pub const TAKE_DISCONTINUITY: u64 = 6;
+
+pub const TAKE_STALLED: u64 = 7;
+
+// In place of an IPv4 address: the sender has an IPv6 one.
+pub const IPV6: u64 = 4294967296;
+
 pub struct Words {
-    // 0 Begin, 1 Pass, 2 Arrival, 3 Take, 4 Close, and the drains 5 missing, 6 discontinuity, 7 stalled
+    // BEGIN to TAKE_STALLED
     pub kind: u64,
     pub reading: u64,
     // an Arrival's later reading
     pub later: u64,
-    // its sender: an IPv4 address, the first octet the highest, or 2^32 for an IPv6 sender
+    // its sender: an IPv4 address, the first octet the highest, or IPV6
     pub address: u64,
     pub port: u64,
     // how many octets its datagram has
@@ -49,23 +86,23 @@ pub fn words_at(calls: &[u64], at: usize) -> Words
 {
     Words {
         kind: calls[at],
-        reading: calls[at + 1],
-        later: calls[at + 2],
-        address: calls[at + 3],
-        port: calls[at + 4],
-        octets: calls[at + 5],
-        numbers: calls[at + 6],
-        places: calls[at + 7],
+        reading: calls[at + READING],
+        later: calls[at + LATER],
+        address: calls[at + ADDRESS],
+        port: calls[at + PORT],
+        octets: calls[at + OCTETS],
+        numbers: calls[at + NUMBERS],
+        places: calls[at + PLACES],
     }
 }
 
 pub fn is_call(w: Words) -> bool
     ensures { λ r. ⌜ r ≡ Encoding.isCall w ⌝ }
 {
-    if w.kind > 7 {
+    if w.kind > TAKE_STALLED {
         return false;
     }
-    if w.address > 4294967296 {
+    if w.address > IPV6 {
         return false;
     }
     w.port <= 65535
@@ -74,13 +111,13 @@ pub fn is_call(w: Words) -> bool
 fn lends_packets(kind: u64) -> bool
     ensures { λ r. ⌜ r ≡ Encoding.lendsPackets kind ⌝ }
 {
-    if kind == 1 {
+    if kind == PASS {
         return true;
     }
-    if kind == 2 {
+    if kind == ARRIVAL {
         return true;
     }
-    kind == 4
+    kind == CLOSE
 }
 
 fn if_used(used: bool, n: u64) -> usize
@@ -94,10 +131,10 @@ pub fn taken_by(w: Words) -> Amounts
     ensures { λ r. ⌜ r ≡ Encoding.takenBy w ⌝ }
 {
     Amounts {
-        octets: if_used(w.kind == 2, w.octets),
-        numbers: if_used(w.kind == 2, w.numbers),
+        octets: if_used(w.kind == ARRIVAL, w.octets),
+        numbers: if_used(w.kind == ARRIVAL, w.numbers),
         packets: if_used(lends_packets(w.kind), w.places),
-        places: if_used(w.kind == 3, w.places),
+        places: if_used(w.kind == TAKE, w.places),
     }
 }
 

@@ -18,6 +18,14 @@ use encoding::answer::of_flag;
 use encoding::answer::of_pass;
 use encoding::answer::of_slot;
 use encoding::answer::of_take;
+use encoding::words::ARRIVAL;
+use encoding::words::BEGIN;
+use encoding::words::CLOSE;
+use encoding::words::IPV6;
+use encoding::words::PASS;
+use encoding::words::TAKE;
+use encoding::words::TAKE_DISCONTINUITY;
+use encoding::words::TAKE_MISSING;
 use encoding::words::Words;
 use model::command::Streams;
 use model::sender::Sender;
@@ -64,7 +72,7 @@ fn sender(address: u64, port: u64) -> Sender
     requires { ⌜ (address ≤ 4294967296) × (port ≤ 65535) ⌝ }
     ensures { λ r. ⌜ r ≡ senderOf address port ⌝ }
 {
-    if address == 4294967296 {
+    if address == IPV6 {
         return Sender::V6;
     }
     Sender::V4 {
@@ -189,25 +197,25 @@ pub(crate) fn call(
     requires { ⌜ isCall w ≡ true ⌝ }
     ensures { λ r. ⌜ Replies r (now (samples .exit)) (pick (lendsPackets (w .kind)) (now (packets .exit)) []) (pick (eqb (w .kind) 3) (now (places .exit)) []) (step (joined s (now (samples .entry))) (callOf w (now (octets .entry)) (now (numbers .entry)) (now (packets .entry)) (now (places .entry)))) ⌝ }
 {
-    if w.kind == 0 {
+    if w.kind == BEGIN {
         return begin(s, w.reading);
     }
-    if w.kind == 1 {
+    if w.kind == PASS {
         return pass(s, w.reading, packets);
     }
-    if w.kind == 2 {
+    if w.kind == ARRIVAL {
         return arrival(s, samples, w, octets, numbers, packets);
     }
-    if w.kind == 3 {
+    if w.kind == TAKE {
         return take(s, samples, w.reading, places);
     }
-    if w.kind == 4 {
+    if w.kind == CLOSE {
         return close(s, packets);
     }
-    if w.kind == 5 {
+    if w.kind == TAKE_MISSING {
         return missing(s);
     }
-    if w.kind == 6 {
+    if w.kind == TAKE_DISCONTINUITY {
         return discontinuity(s);
     }
     stalled(s)
