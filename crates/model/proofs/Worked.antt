@@ -7,14 +7,19 @@ use lib.Ieee.{Float, nan, inf, lt, eq, ofInt, mul, div, add, sub, round}
 use Rattle.double.specs.Whole.{most, natOf, rounded, isWhole}
 use Rattle.stream.specs.Elapsed.{jumpLimit, restartMissing, accountTime, coveredTime, plausible}
 use Rattle.base.specs.Told.{Told, gives, refused}
-use Rattle.stall.specs.Episode.{unarmed}
+use Rattle.stall.specs.Episode.{unarmed, delivered, isDue}
 use Rattle.sequence.specs.declared.SeqEvent.the-variants.{Gap, Restart}
 use Rattle.model.specs.Settings.{settingsTold}
 use Rattle.model.specs.Answer.{Answer, heard}
 use Rattle.model.specs.Rules.{begun, used, elapsed, backlog, outage, added, refilled, capped, datagrams, uncovered, missingOf}
 use Rattle.model.specs.Routing.{Routed, iq, status, ignored, malformed, routed, byOffset}
-use Rattle.model.specs.Host.{Incoming, Arrival}
-use Rattle.model.specs.State.{State, left, waits}
+use Rattle.model.specs.Host.{Incoming, Call, Pass, Arrival, Close}
+use Rattle.model.specs.Parts.{with-receiver, with-tracker, with-queue-pos, with-stall}
+use Rattle.model.specs.Pass.{pass, passed, stallSoft}
+use Rattle.model.specs.Close.{close, stop}
+use Rattle.model.specs.declared.receiver.Receiver.{Receiver}
+use lib.ListN.{replicate}
+use Rattle.model.specs.State.{State, left, waits, quietSince}
 use Rattle.model.specs.Open.{newCommon}
 use Rattle.model.specs.Session.{step}
 use Rattle.model.proofs.Lists.{kHz48, mHz7, radio, usual, datagram, iqAt, iqWith, room, silence}
@@ -37,7 +42,7 @@ use Rattle.sequence.specs.Tracker.{past}
 use Rattle.sequence.specs.Tracker as Sequence
 use Rattle.sequence.specs.declared.Expected.the-variants.{Next}
 use Rattle.model.specs.Hearing.{eventOf, restartOf, leftOut, accepted}
-use Rattle.model.specs.Arrival.{hear, heardAs, heardIq, arrived, arrival}
+use Rattle.model.specs.Arrival.{hear, heardAs, heardIq, oneMore, heardMalformed, arrived, arrival}
 
 abbrev num : ℕ → ℕ → Case Given
 num worked is = case (number worked) (number is)
@@ -221,6 +226,34 @@ arrivalCases =
     ∷ hears 1 1000000000 (Open 3000000000 0 2) (iqWith 4000000000 5000000000 0 mixed) (heard Restart 94096)
     ∷ []
 
+-- ---- what a call leaves alone: the receiver after it
+
+abbrev leftBy : State → Call → Receiver
+leftBy st c = (step st c) .state .session .receiver
+
+-- a state that expects 6, with its receiver changed
+abbrev having : (Receiver → Receiver) → State
+having f =
+    let st = expectingIn 6 0 (Open 0 0 2) in
+    record { session = with-receiver (st .session) (f (st .session .receiver)); samples = silence }
+
+abbrev pub keptCases : List (Case Given)
+keptCases =
+    -- the accepted time is the arrival's own reading, not its later one
+    num ((leftBy (having (λ r. r)) (Arrival (iqWith 1000 2000 6 []) room)) .«last_accepted_iq») 1000
+    -- a stale one uses up nothing of a window
+    ∷ win ((leftBy (having (λ r. r)) (Arrival (iqAt 0 5) room)) .parked .window) (Open 0 0 2)
+    -- a malformed one leaves the stale run
+    ∷ num
+    ((leftBy (having (λ r. with-tracker r (record { expected = Next 6; «stale_run» = 3 })))
+    (Arrival (record { now = 0; later = 0; from = V6; octets = []; waiting = [] }) room)) .tracker .«stale_run»)
+    3
+    -- a soft stall leaves the Take's time
+    ∷ num ((leftBy (having (λ r. with-stall r (delivered (r .stall)))) (Pass 5000000000 (replicate 4452 0))) .«read_returned») 0
+    -- Close leaves what waits
+    ∷ num (left (leftBy (having (λ r. with-queue-pos r 0)) (Close (replicate 2888 0)))) 238
+    ∷ []
+
 -- ---- they hold
 
 pub times-hold : Hold timeCases
@@ -253,3 +286,9 @@ unfolding pick newCommon step arrival arrived routed byOffset headerTold rows he
     Sequence.observed Sequence.meant Sequence.less Sequence.after Sequence.zeroRestarts elapsed jumpLimit plausible natOf secondsOf ofInt add sub mul div
     restartMissing rounded round outage uncovered backlog datagrams accountTime coveredTime
 arrivals-hold = refl
+
+pub kept-hold : Hold keptCases
+unfolding pick newCommon step arrival arrived routed byOffset headerTold rows heardIq heardAs hear heardMalformed oneMore eventOf restartOf capped accepted leftOut
+    used missingOf waits left quietSince Sequence.observed Sequence.meant Sequence.less Sequence.after Sequence.zeroRestarts elapsed jumpLimit plausible natOf
+    secondsOf ofInt add sub mul div accountTime isDue pass passed stallSoft close stop
+kept-hold = refl
