@@ -21,7 +21,7 @@ use Rattle.model.specs.Routing.{Routed, iq, status, ignored, malformed, routed}
 use Rattle.model.specs.Host.{Incoming, Arrival, Step}
 use Rattle.model.specs.State.{State, left, waits, waitingIn, keeping}
 use Rattle.model.specs.Sample.{pairs}
-use Rattle.wire.specs.Iq as Iq
+use Rattle.iq.specs.Iq as Iq
 use Rattle.model.specs.Hearing.{eventOf, restartOf, leftOut, accepted}
 use Rattle.model.specs.Arrival.{told, hear, heardAs, heardIq, overload, heardStatus, oneMore, heardMalformed, arrived, atLater, route, arrival}
 use Rattle.account.specs.Whole.{fits, fitsBelow, verdict}

@@ -10,7 +10,7 @@ use lib.ListN.{length, getD}
 use Rattle.octets.proofs.Numbers.{beAt-lt}
 use Rattle.base.proofs.Picks.{pick-either}
 use Rattle.base.specs.Told.{Told}
-use Rattle.wire.specs.Iq.{rows, headerTold}
+use Rattle.iq.specs.Iq.{rows, headerTold}
 use Rattle.model.specs.Routing.{Routed, iq, status, ignored, malformed, byHeader, byOffset, routed}
 use Rattle.model.specs.Host.{Incoming, Call, Begin, Pass, Arrival, Take, Close, TakeMissing, TakeDiscontinuity, TakeStalled, Reply, Host, trace}
 use Rattle.account.specs.Whole.{Near}

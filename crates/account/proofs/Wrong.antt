@@ -16,8 +16,8 @@ use Rattle.stream.specs.Elapsed.{plausible, jumpLimit, restartMissing}
 use Rattle.base.specs.Search.{first}
 use Rattle.tuning.specs.Rate.{rateAt, isRate}
 use Rattle.tuning.specs.Centre.{wholeCentre, belowNyquist}
-use Rattle.wire.specs.Iq.{headerTold, rows}
-use Rattle.wire.specs.Iq as Iq
+use Rattle.iq.specs.Iq.{headerTold, rows}
+use Rattle.iq.specs.Iq as Iq
 use Rattle.sequence.specs.Tracker.{after, less, zeroRestarts, meant, observed}
 use Rattle.sequence.specs.declared.SeqEvent.the-variants.{Gap, Stale, Restart}
 use Rattle.model.specs.Settings.{settingsTold, accepts}

@@ -3,6 +3,7 @@
 use Prim.Native.Nat.{ℕ, _+_, _-_, _*_}
 use mathlib.Core.Bool.{Bool, true, false, cond}
 use mathlib.Core.Option.{Option, some, none}
+use Rattle.stream.specs.Size.{perDatagram}
 use Rattle.stream.specs.Elapsed.{jumpLimit, restartMissing}
 use Rattle.sequence.specs.Tracker.{past}
 use Rattle.model.specs.Rules.{begun, used, elapsed, outage}
@@ -84,7 +85,7 @@ restartIn s b i n =
 
 abbrev pub missingIn : Option ℕ → Bool → ℕ → ℕ → ℕ
 missingIn none fit restart n = 0
-missingIn (some e) true restart n = 238 * (n - e)
+missingIn (some e) true restart n = perDatagram * (n - e)
 missingIn (some e) false restart n = restart
 
 -- what it misses

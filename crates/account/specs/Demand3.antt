@@ -7,6 +7,7 @@ use mathlib.Core.List.{List, [], _∷_, _++_}
 use mathlib.Core.Option.{Option, some, none}
 use lib.ListN.{length}
 use lib.Dec.{T}
+use Rattle.stream.specs.Size.{perDatagram}
 use Rattle.base.specs.Each.{Each}
 use Rattle.sequence.specs.declared.SeqEvent.the-variants.{InOrder, Stale, Restart}
 use Rattle.model.specs.Settings.{accepts}
@@ -43,7 +44,7 @@ Rising n (x ∷ xs) = (n < x .number) × Rising (x .number) xs
 -- in each stretch the accepted numbers rise, and samples + missing told after its first arrival = 238 × (highest - first + 1)
 pub record Sums (x : Entry) (xs : List Entry) : Type 0 where
   pub rising : Rising (x .number) (accepted xs)
-  pub sum : length (samplesOf (x ∷ accepted xs)) + missingTold xs ≡ 238 * (highest (x .number) (accepted xs) - x .number + 1)
+  pub sum : length (samplesOf (x ∷ accepted xs)) + missingTold xs ≡ perDatagram * (highest (x .number) (accepted xs) - x .number + 1)
 
 -- the claim about the lines of a list, the samples that wait after it, and its arrivals
 pub record Agrees (s : Settings) (ls : List Line) (waiting : List Sample) (entries : List Entry) : Type 0 where

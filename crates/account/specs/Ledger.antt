@@ -3,7 +3,7 @@ use Prim.Native.Nat.{ℕ, _+_, _*_, max}
 use mathlib.Core.Bool.{Bool, cond}
 use mathlib.Core.List.{List, [], _∷_, _++_}
 use lib.ListN.{take}
-use Rattle.wire.specs.Iq as Iq
+use Rattle.iq.specs.Iq as Iq
 use Rattle.model.specs.Answer.{Tells, tells}
 use Rattle.model.specs.Sample.{Sample, pairs}
 use Rattle.model.specs.Host.{Incoming, Call, Begin, Pass, Arrival, Take, Close, TakeMissing, TakeDiscontinuity, TakeStalled, Reply}

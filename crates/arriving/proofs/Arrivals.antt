@@ -9,7 +9,7 @@ use lib.Ieee.{Float}
 use borrow.Author.Tests.{lt-ltb, le-ltb, le-leb, lt-leb}
 use Rattle.base.proofs.Picks.{pick-t, pick-f}
 use Rattle.base.specs.Told.{gives}
-use Rattle.wire.specs.Iq.{headerTold, samplesOf}
+use Rattle.iq.specs.Iq.{headerTold, samplesOf}
 use Rattle.wire.specs.Status.{overloadTold, overloaded, overloadAnswer}
 use Rattle.wire.specs.declared.status.OverloadBits.{OverloadBits}
 use Rattle.wire.specs.declared.status.OverloadBits.the-variants.{Bits, NoBits}

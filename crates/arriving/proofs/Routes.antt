@@ -8,10 +8,10 @@ use native.Mathlib.Omega.{arith}
 use lib.ListN.{getD}
 use Rattle.base.proofs.Picks.{pick-t, pick-f, pick-either}
 use Rattle.base.specs.Told.{Told, gives, refused}
-use Rattle.wire.proofs.Headers.{given-count}
-use Rattle.wire.specs.Iq.{iqAnswer, headerTold}
-use Rattle.wire.specs.declared.iq.IqAnswer.{IqAnswer}
-use Rattle.wire.specs.declared.iq.IqAnswer.the-variants.{Accepted, Length, BitsPerSample, SamplesPerFrame, NoRoom}
+use Rattle.iq.proofs.Headers.{given-count}
+use Rattle.iq.specs.Iq.{iqAnswer, headerTold}
+use Rattle.iq.specs.declared.IqAnswer.{IqAnswer}
+use Rattle.iq.specs.declared.IqAnswer.the-variants.{Accepted, Length, BitsPerSample, SamplesPerFrame, NoRoom}
 use Rattle.model.specs.Routing.{Routed, iq, status, ignored, malformed, byHeader, byOffset, routed}
 use Rattle.model.specs.declared.sender.Sender.{Sender}
 use Rattle.model.specs.declared.sender.Sender.the-variants.{V4, V6}

@@ -20,6 +20,7 @@ use receiving::hear::hear;
 use receiving::queue::waits;
 use receiving::read::not_reading;
 use sending::send::no_streams;
+use stream::F32_PER_DATAGRAM;
 use stream::MAX_BUFFERED_DATAGRAMS;
 
 // A step's packet.
@@ -39,7 +40,7 @@ pub(crate) fn told(answer: ArrivalAnswer, session: Session) -> Arrived
 // After every refusal, of a session whose last reading is the later one.
 fn arrived(
     s: Session,
-    samples: &mut [f32; 476],
+    samples: &mut [f32; F32_PER_DATAGRAM],
     reading: u64,
     later: u64,
     from: Sender,
@@ -77,7 +78,7 @@ fn arrived(
 
 pub fn arrival(
     s: Session,
-    samples: &mut [f32; 476],
+    samples: &mut [f32; F32_PER_DATAGRAM],
     reading: u64,
     later: u64,
     from: Sender,

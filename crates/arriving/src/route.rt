@@ -2,9 +2,9 @@
 ghost use mathlib.Core.Path.{_≡_};
 ghost use Rattle.model.specs.Routing as Routing;
 ghost use Rattle.arriving.specs.Route.{routeOf};
+use iq::IqAnswer;
+use iq::iq_header;
 use model::sender::Sender;
-use wire::iq::IqAnswer;
-use wire::iq::iq_header;
 
 // DDC0's I/Q: the highest source port of the radio's port map, relative to the port.
 const DDC0_PORT_OFFSET: u16 = 11;

@@ -1,11 +1,11 @@
 // The functions of wire on octets that a case can name. A row is counted from 0, in the order of the table.
 use super::answer::Answer;
+use iq::IqAnswer;
+use iq::iq_header;
+use iq::parse_iq_datagram;
 use tuning::board::BoardId;
 use tuning::board::BoardInfo;
 use tuning::board::FilterScheme;
-use wire::iq::IqAnswer;
-use wire::iq::iq_header;
-use wire::iq::parse_iq_datagram;
 use wire::packet::PacketAnswer;
 use wire::packet::general_packet;
 use wire::packet::high_priority_packet;

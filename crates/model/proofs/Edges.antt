@@ -23,7 +23,7 @@ use Rattle.stream.specs.Elapsed.{plausible, jumpLimit, restartMissing, belowHal
 use Rattle.base.specs.Search.{first}
 use Rattle.tuning.specs.Rate.{rateAt, isRate, khzOf}
 use Rattle.tuning.specs.Centre.{wholeCentre, belowNyquist}
-use Rattle.wire.specs.Iq.{headerTold, rows}
+use Rattle.iq.specs.Iq.{headerTold, rows}
 use Rattle.sequence.specs.Tracker as Sequence
 use Rattle.model.specs.Settings.{settingsTold, accepts}
 use Rattle.model.specs.Rules.{begun, refilled, used, elapsed, capped, outage, missingOf, added, pendingAfter}

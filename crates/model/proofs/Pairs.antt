@@ -9,7 +9,7 @@ use lib.Ieee.{Float}
 use Rattle.octets.specs.Written.{written}
 use Rattle.octets.proofs.Writes.{written-front}
 use Rattle.octets.proofs.Tables.{length-tab}
-use Rattle.wire.specs.Iq as Iq
+use Rattle.iq.specs.Iq as Iq
 use Rattle.model.specs.Sample.{Sample, pairs}
 
 twice : ℕ → ℕ

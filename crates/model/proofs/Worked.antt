@@ -37,7 +37,7 @@ use Rattle.double.specs.Seconds.{secondsOf}
 use Rattle.base.specs.Search.{first}
 use Rattle.tuning.specs.Rate.{rateAt, isRate, khzOf}
 use Rattle.tuning.specs.Centre.{wholeCentre, belowNyquist}
-use Rattle.wire.specs.Iq.{headerTold, rows}
+use Rattle.iq.specs.Iq.{headerTold, rows}
 use Rattle.sequence.specs.Tracker.{past}
 use Rattle.sequence.specs.Tracker as Sequence
 use Rattle.sequence.specs.declared.Expected.the-variants.{Next}

@@ -3,9 +3,10 @@ use Prim.Native.Nat.{ℕ, _+_, min}
 use mathlib.Core.List.{List, [], _∷_}
 use lib.ListN.{length}
 use lib.Dec.{ltb, leb}
+use Rattle.stream.specs.Size.{maxBuffered}
 use Rattle.base.specs.Pick.{pick}
 use Rattle.base.specs.Told.{Told, gives, refused}
-use Rattle.wire.specs.Iq.{samplesOf}
+use Rattle.iq.specs.Iq.{samplesOf}
 use Rattle.sequence.specs.Tracker.{observed}
 use Rattle.wire.specs.Status.{overloadTold, overloaded}
 use Rattle.sequence.specs.declared.SeqEvent.{SeqEvent}
@@ -103,6 +104,6 @@ arrival st i d =
     (pick (fell (st .session) (i .now)) (refuse 11 d [] st)
     (pick (waits (st .session .receiver)) (refuse 12 d [] st)
     (pick (ltb (i .later) (i .now)) (refuse 13 d [] st)
-    (pick (ltb 8192 (length (i .waiting))) (refuse 14 d [] st)
+    (pick (ltb maxBuffered (length (i .waiting))) (refuse 14 d [] st)
     (pick (ltb (length d) 1444) (refuse 15 d [] st)
     (arrived (atLater st (i .later)) i d (route st i)))))))

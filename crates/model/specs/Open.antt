@@ -4,6 +4,7 @@ use mathlib.Core.Bool.{Bool, true, false}
 use mathlib.Core.List.{[], _∷_}
 use lib.Ieee.{fin}
 use lib.IntN.{pos}
+use Rattle.stream.specs.Size.{perDatagram}
 use Rattle.base.specs.Pick.{pick}
 use Rattle.tuning.specs.Alex.{alexWords}
 use Rattle.tuning.specs.Phase.{phaseWord}
@@ -61,7 +62,7 @@ unfoldable pub newReceiver : ℕ → Receiver
 newReceiver now =
     record {
       tracker = Sequence.new;
-      «queue_pos» = 238;
+      «queue_pos» = perDatagram;
       reading = record { «wait_entered» = Unset; entered = Unset };
       parked = record { window = Shut };
       pending = record { missing = Empty; discontinuity = Empty };

@@ -6,7 +6,7 @@ use lib.Dec.{ltb, leb, eqb}
 use lib.ListN.{getD}
 use Rattle.base.specs.Pick.{pick}
 use Rattle.base.specs.Told.{Told, gives, refused}
-use Rattle.wire.specs.Iq.{headerTold}
+use Rattle.iq.specs.Iq.{headerTold}
 use Rattle.model.specs.declared.sender.Sender.{Sender}
 use Rattle.model.specs.declared.sender.Sender.the-variants.{V4, V6}
 

@@ -5,6 +5,7 @@ use mathlib.Core.Bool.{Bool, true, false}
 use mathlib.Core.List.{List, [], _∷_}
 use lib.Dec.{leb}
 use lib.Ieee.{Float}
+use Rattle.stream.specs.Size.{perDatagram}
 use Rattle.base.specs.Pick.{pick}
 use Rattle.double.specs.Whole.{most}
 use Rattle.stream.specs.Elapsed.{jumpLimit, accountTime, coveredTime, belowHalf}
@@ -34,7 +35,7 @@ begun size taken w now = pick (leb 100000000 (now - taken)) (refilled size taken
 unfoldable pub used : Window → ℕ → Window
 used Shut missing = Shut
 used (Open from accounted left) missing =
-    pick (leb left 1) Shut (Open from (min (accounted + (238 + missing)) most) (left - 1))
+    pick (leb left 1) Shut (Open from (min (accounted + (perDatagram + missing)) most) (left - 1))
 
 -- ---- elapsed time and the jump limit
 
@@ -81,7 +82,7 @@ outage rate accepted (Open from accounted left) now later t waiting =
 -- 238 k of a gap k; of a restart what its time gives
 unfoldable pub missingOf : SeqEvent → ℕ → ℕ
 missingOf InOrder restart = 0
-missingOf (Gap k) restart = 238 * k
+missingOf (Gap k) restart = perDatagram * k
 missingOf Stale restart = 0
 missingOf Restart restart = restart
 

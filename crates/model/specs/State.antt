@@ -5,6 +5,7 @@ use mathlib.Core.List.{List, []}
 use lib.ListN.{drop}
 use lib.Dec.{ltb}
 use lib.Ieee.{Float}
+use Rattle.stream.specs.Size.{perDatagram}
 use Rattle.model.specs.Answer.{Answer, refused}
 use Rattle.model.specs.Sample.{Sample, pairs}
 use Rattle.model.specs.Host.{Step}
@@ -22,7 +23,7 @@ pub record State : Type 0 where
 
 -- how many samples wait
 unfoldable pub left : Receiver → ℕ
-left r = 238 - r .«queue_pos»
+left r = perDatagram - r .«queue_pos»
 
 unfoldable pub waits : Receiver → Bool
 waits r = ltb 0 (left r)

@@ -12,9 +12,9 @@ use Rattle.base.proofs.Picks.{pick-t, pick-f}
 use Rattle.octets.proofs.Tables.{length-tab}
 use Rattle.octets.proofs.Writes.{written-front}
 use Rattle.stream.specs.Elapsed.{jumpLimit}
-use Rattle.wire.specs.Iq.{headerTold, samplesOf, Parsed}
-use Rattle.wire.specs.declared.iq.IqAnswer.{IqAnswer}
-use Rattle.wire.proofs.Headers.{parsed-samples}
+use Rattle.iq.specs.Iq.{headerTold, samplesOf, Parsed}
+use Rattle.iq.specs.declared.IqAnswer.{IqAnswer}
+use Rattle.iq.proofs.Headers.{parsed-samples}
 use Rattle.sequence.specs.Tracker.{observed}
 use Rattle.sequence.specs.declared.Observed.{Observed}
 use Rattle.sequence.specs.declared.SeqEvent.{SeqEvent}

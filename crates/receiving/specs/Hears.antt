@@ -4,7 +4,7 @@ use mathlib.Core.Path.{_≡_}
 use mathlib.Core.List.{List}
 use lib.Ieee.{Float}
 use Rattle.base.specs.Pick.{pick}
-use Rattle.wire.specs.Iq.{samplesOf}
+use Rattle.iq.specs.Iq.{samplesOf}
 use Rattle.health.specs.declared.InputHealthCounters.{InputHealthCounters}
 use Rattle.model.specs.Rules.{missingOf, isStale}
 use Rattle.model.specs.Hearing.{eventOf, restartOf, leftOut, accepted, counted}

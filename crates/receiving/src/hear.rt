@@ -4,11 +4,12 @@ ghost use mathlib.Core.List.{[], _∷_};
 ghost use Prim.Native.Nat.{_≤_};
 ghost use lib.ListN.{length};
 ghost use Rattle.base.specs.Told.{gives};
-ghost use Rattle.wire.specs.Iq.{headerTold};
+ghost use Rattle.iq.specs.Iq.{headerTold};
 ghost use Rattle.model.specs.Hearing.{valid, eventOf, leftOut, queued};
 ghost use Rattle.model.specs.Parts.{with-tracker};
 ghost use Rattle.receiving.specs.Hears.{Hears};
 use health::InputHealthCounters;
+use iq::parse_iq_datagram;
 use model::receiver::Anchor;
 use model::receiver::Parked;
 use model::receiver::Reading;
@@ -20,8 +21,8 @@ use outage::report::report_event;
 use outage::window::used;
 use sequence::SeqEvent;
 use sequence::SeqTracker;
+use stream::F32_PER_DATAGRAM;
 use stream::jump_limit;
-use wire::iq::parse_iq_datagram;
 
 pub struct Judged {
     pub event: SeqEvent,
@@ -94,7 +95,7 @@ pub fn hear(
     rate: f64,
     r: Receiver,
     health: InputHealthCounters,
-    samples: &mut [f32; 476],
+    samples: &mut [f32; F32_PER_DATAGRAM],
     reading: u64,
     later: u64,
     count: u32,

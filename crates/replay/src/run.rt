@@ -20,6 +20,7 @@ use model::session::Session;
 use model::settings::Settings;
 use model::settings::SettingsAnswer;
 use opening::open::open;
+use stream::F32_PER_DATAGRAM;
 use turns::turn::turn_at;
 
 // What became of a list, and the session after it.
@@ -31,7 +32,7 @@ pub struct Carried {
 // Every call in turn, of a list that was checked.
 fn run(
     first: Session,
-    samples: &mut [f32; 476],
+    samples: &mut [f32; F32_PER_DATAGRAM],
     calls: &[u64],
     octets: &[u8],
     numbers: &[u32],
@@ -92,7 +93,7 @@ fn is_accepted(answer: SettingsAnswer) -> bool
 // From any session. A list that is refused leaves the session and every lent buffer as they were.
 pub fn carry_on(
     s: Session,
-    samples: &mut [f32; 476],
+    samples: &mut [f32; F32_PER_DATAGRAM],
     calls: &[u64],
     octets: &[u8],
     numbers: &[u32],
@@ -134,7 +135,7 @@ pub struct Replayed {
 pub fn replay(
     settings: Settings,
     opening: u64,
-    samples: &mut [f32; 476],
+    samples: &mut [f32; F32_PER_DATAGRAM],
     calls: &[u64],
     octets: &[u8],
     numbers: &[u32],

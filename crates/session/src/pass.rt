@@ -10,6 +10,7 @@ ghost use Rattle.model.specs.Pass as Pass;
 ghost use Rattle.model.specs.Sending.{duePackets, wrote};
 ghost use Rattle.model.specs.Command.{streamsAs};
 ghost use Rattle.model.specs.Gives.{Gives};
+use keepalive::send_due;
 use model::answer::PassAnswer;
 use model::answer::Passed;
 use model::receiver::Receiver;
@@ -20,7 +21,6 @@ use receiving::read::not_reading;
 use receiving::read::quiet_at;
 use receiving::read::shut;
 use receiving::read::stalled;
-use sending::keepalive::send_due;
 use sending::send::no_streams;
 use sending::send::start;
 

@@ -14,6 +14,7 @@ use receiving::queue::handed;
 use receiving::queue::left;
 use receiving::queue::waits;
 use receiving::read::not_reading;
+use stream::F32_PER_DATAGRAM;
 
 fn least(a: usize, b: usize) -> usize
     ensures { λ r. ⌜ r ≡ min a b ⌝ }
@@ -21,7 +22,12 @@ fn least(a: usize, b: usize) -> usize
     if a <= b { a } else { b }
 }
 
-pub fn take(s: Session, samples: &[f32; 476], reading: u64, buffer: &mut [f32]) -> Handed
+pub fn take(
+    s: Session,
+    samples: &[f32; F32_PER_DATAGRAM],
+    reading: u64,
+    buffer: &mut [f32],
+) -> Handed
     ensures { λ r. ⌜ replied (takeAnswer (r .answer)) [] [] (now (buffer .exit)) (joined (r .session) (now (samples .entry))) ≡ Take.takeOut (joined s (now (samples .entry))) reading (now (buffer .entry)) ⌝ }
 {
     let receiver = s.receiver;

@@ -8,7 +8,7 @@ use lib.Ieee.{Float, fin, binary64, ofInt, div, add, sub, mul, lt}
 use Rattle.base.proofs.Cases.{Case, case, Hold}
 use Rattle.double.specs.Whole.{natOf, rounded, ceilOf, roundOf}
 use Rattle.double.specs.Seconds.{secondsOf, nanosOf}
-use Rattle.stream.specs.Elapsed.{perDatagram, slack, plausible, jumpLimit, restartMissing, belowHalf}
+use Rattle.stream.specs.Elapsed.{perDatagram64, slack, plausible, jumpLimit, restartMissing, belowHalf}
 
 abbrev kHz48 : Float
 kHz48 = fin false 375 (pos 7)
@@ -28,7 +28,7 @@ edges =
     -- a gap of 3226 is at 1536 kHz, one of 3227 is not
     case (bit (belowHalf 767788 kHz1536)) 1 ∷ case (bit (belowHalf 768026 kHz1536)) 0 ∷
     -- the association of the product: with the quotient by 238 taken last, 8.925 s would allow 1819 and not 1818
-    case (jumpLimit 8925000000 kHz48) 10010 ∷ case (ceilOf (mul binary64 (div binary64 (mul binary64 (secondsOf 8925000000) kHz48) perDatagram) slack)) 1819 ∷
+    case (jumpLimit 8925000000 kHz48) 10010 ∷ case (ceilOf (mul binary64 (div binary64 (mul binary64 (secondsOf 8925000000) kHz48) perDatagram64) slack)) 1819 ∷
     -- 238 comes off before the cast: past 2 ^ 54 samples, which 1536 kHz reaches, it leaves 2 fewer than after it
     case (restartMissing 11728124030000000000 kHz1536) 18014398510079760 ∷ case (roundOf (mul binary64 (secondsOf 11728124030000000000) kHz1536)) 18014398510080000 ∷
     -- half away from zero: 2.5. Nanoseconds to the even one: 976,562.5 and 2,929,687.5

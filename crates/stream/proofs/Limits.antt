@@ -14,7 +14,7 @@ use lib.Ieee.Back.{round-whole}
 use lib.Ieee.Positive.{num, den, den-pos, positive}
 use Rattle.double.specs.Whole.{most, floorAt, floorOf, ceilAt, ceilOf, roundAt, rounded}
 use Rattle.double.specs.Seconds.{secondsOf, nanosAt, nanosOf}
-use Rattle.stream.specs.Elapsed.{perDatagram, slack, two, plausible, jumpLimit, restartMissing, accountTime, coveredTime, belowHalf}
+use Rattle.stream.specs.Elapsed.{perDatagram64, slack, two, plausible, jumpLimit, restartMissing, accountTime, coveredTime, belowHalf}
 use Rattle.double.proofs.Bounds.{Exact, UpTo, exact-small, mul-up-to, div-up-to, up-to-more, at-most, plain-up-to}
 use Rattle.double.proofs.Plain.{plain}
 use Rattle.double.proofs.Floors.{exact-fraction}
@@ -25,16 +25,16 @@ use Rattle.double.proofs.Values.{floor-of-whole, nat-minus, sub-ge, sub-lt, div
 use Rattle.double.proofs.Times.{exact-u64, count-up-to, seconds-up-to}
 
 -- ---- the jump limit, at every rate up to 2 ^ 21 samples a second
-pub rate-up-to : (rate : Float) → UpTo rate 2097152 → UpTo (div binary64 rate perDatagram) 8812
-rate-up-to rate r = div-up-to rate perDatagram 8812 2097152 tt (exact-small 8812 (lit≤ tt)) r (lit≤ tt)
+pub rate-up-to : (rate : Float) → UpTo rate 2097152 → UpTo (div binary64 rate perDatagram64) 8812
+rate-up-to rate r = div-up-to rate perDatagram64 8812 2097152 tt (exact-small 8812 (lit≤ tt)) r (lit≤ tt)
 
 module _ (ns : ℕ) (rate : Float) (h : ns < 2 ^ 64) (r : UpTo rate 2097152) where
-  pub product-up-to : UpTo (mul binary64 (secondsOf ns) (div binary64 rate perDatagram)) 162552708780088
-  product-up-to = mul-up-to (secondsOf ns) (div binary64 rate perDatagram) 18446744074 8812 (exact-small 162552708780088 (lit≤ tt)) (seconds-up-to ns h) (rate-up-to rate r)
+  pub product-up-to : UpTo (mul binary64 (secondsOf ns) (div binary64 rate perDatagram64)) 162552708780088
+  product-up-to = mul-up-to (secondsOf ns) (div binary64 rate perDatagram64) 18446744074 8812 (exact-small 162552708780088 (lit≤ tt)) (seconds-up-to ns h) (rate-up-to rate r)
 
   plausible-up-to : UpTo (plausible ns rate) 325105417560176
   unfolding plausible
-  plausible-up-to = mul-up-to (mul binary64 (secondsOf ns) (div binary64 rate perDatagram)) slack 162552708780088 2 (exact-small 325105417560176 (lit≤ tt)) product-up-to (refl, lit≤ tt)
+  plausible-up-to = mul-up-to (mul binary64 (secondsOf ns) (div binary64 rate perDatagram64)) slack 162552708780088 2 (exact-small 325105417560176 (lit≤ tt)) product-up-to (refl, lit≤ tt)
 
   ceil-small : ceilAt (num (plausible ns rate)) (den (plausible ns rate)) ≤ 325105417560176
   ceil-small = ceil-le (num (plausible ns rate)) (den (plausible ns rate)) 325105417560176 (den-pos (plausible ns rate)) (at-most (plausible ns rate) 325105417560176 plausible-up-to)
@@ -54,25 +54,25 @@ module _ (ns : ℕ) (rate : Float) (h : ns < 2 ^ 64) (r : UpTo rate 2097152) whe
       more v h = omega arith
 
 -- ---- a restart's missing: the whole number less 238, while it is below 2 ^ 53, as at every rate up to 488,281 samples a second
-less-of : (n : ℕ) → n ≤ 2 ^ 53 → floorOf (sub binary64 (round binary64 false n 1) perDatagram) ≡ n - 238
+less-of : (n : ℕ) → n ≤ 2 ^ 53 → floorOf (sub binary64 (round binary64 false n 1) perDatagram64) ≡ n - 238
 less-of n h = go (ltb n 238) refl
   where
     nothing : n < 238 → 0 ≡ n - 238
     nothing l = omega arith
 
-    go : (t : Bool) → ltb n 238 ≡ t → floorOf (sub binary64 (round binary64 false n 1) perDatagram) ≡ n - 238
+    go : (t : Bool) → ltb n 238 ≡ t → floorOf (sub binary64 (round binary64 false n 1) perDatagram64) ≡ n - 238
     go true l =
-        ap floorOf (sub-lt binary64 (round binary64 false n 1) perDatagram n 238 (exact-small n h) (refl, refl) (ltb-true n 238 l))
+        ap floorOf (sub-lt binary64 (round binary64 false n 1) perDatagram64 n 238 (exact-small n h) (refl, refl) (ltb-true n 238 l))
         ∙ nat-minus floorAt (round binary64 true (238 - n) 1) (round-sign binary64 true (238 - n) 1)
         ∙ nothing (ltb-true n 238 l)
     go false l =
-        ap floorOf (sub-ge binary64 (round binary64 false n 1) perDatagram n 238 (exact-small n h) (refl, refl) (ltb-false n 238 l))
+        ap floorOf (sub-ge binary64 (round binary64 false n 1) perDatagram64 n 238 (exact-small n h) (refl, refl) (ltb-false n 238 l))
         ∙ floor-of-whole (round binary64 false (n - 238) 1) (n - 238) (omega arith) (exact-small (n - 238) (omega arith))
 
-less-datagram : (x : Float) → UpTo x (2 ^ 53) → floorOf (sub binary64 (rounded x) perDatagram) ≡ roundAt (num x) (den x) - 238
+less-datagram : (x : Float) → UpTo x (2 ^ 53) → floorOf (sub binary64 (rounded x) perDatagram64) ≡ roundAt (num x) (den x) - 238
 unfolding rounded
 less-datagram x p =
-    plain (λ (x : Float). UpTo x (2 ^ 53) → floorOf (sub binary64 (rounded x) perDatagram) ≡ roundAt (num x) (den x) - 238)
+    plain (λ (x : Float). UpTo x (2 ^ 53) → floorOf (sub binary64 (rounded x) perDatagram64) ≡ roundAt (num x) (den x) - 238)
     (λ m e p. less-of (roundAt (m * up e) (down e)) (round-le (m * up e) (down e) (2 ^ 53) (down-pos e) (p .1))) x (plain-up-to x (2 ^ 53) p) p
 
 module _ (ns : ℕ) (rate : Float) (h : ns < 2 ^ 64) (r : UpTo rate 488281) where
@@ -107,8 +107,8 @@ exact-datagrams : Exact 4390325089542873284608
 unfolding round
 exact-datagrams = (refl, refl)
 
-pub datagrams-up-to : (n : ℕ) → n ≤ most → UpTo (mul binary64 (ofInt binary64 (pos n)) perDatagram) 4390325089542873284608
-datagrams-up-to n h = mul-up-to (ofInt binary64 (pos n)) perDatagram 18446744073709551616 238 exact-datagrams (count-up-to n h) (refl, lit≤ tt)
+pub datagrams-up-to : (n : ℕ) → n ≤ most → UpTo (mul binary64 (ofInt binary64 (pos n)) perDatagram64) 4390325089542873284608
+datagrams-up-to n h = mul-up-to (ofInt binary64 (pos n)) perDatagram64 18446744073709551616 238 exact-datagrams (count-up-to n h) (refl, lit≤ tt)
 
 -- at every rate of one sample a second or more
 module _ (a n : ℕ) (rate : Float) (h : a ≤ most) (k : n ≤ most) (p : T (positive rate)) (one : den rate ≤ num rate) where
@@ -116,8 +116,8 @@ module _ (a n : ℕ) (rate : Float) (h : a ≤ most) (k : n ≤ most) (p : T (po
   unfolding accountTime
   account-less = nanos-less a (div binary64 (ofInt binary64 (pos n)) rate) 18446744073709551616 h (div-up-to (ofInt binary64 (pos n)) rate 18446744073709551616 18446744073709551616 p exact-u64 (count-up-to n k) (mul-le-mul-left 18446744073709551616 one))
 
-  pub covered-less : let x = div binary64 (mul binary64 (ofInt binary64 (pos n)) perDatagram) rate in a - coveredTime n rate ≡ a - nanosAt (num x) (den x)
+  pub covered-less : let x = div binary64 (mul binary64 (ofInt binary64 (pos n)) perDatagram64) rate in a - coveredTime n rate ≡ a - nanosAt (num x) (den x)
   unfolding coveredTime
   covered-less =
-      let x = mul binary64 (ofInt binary64 (pos n)) perDatagram in
+      let x = mul binary64 (ofInt binary64 (pos n)) perDatagram64 in
       nanos-less a (div binary64 x rate) 4390325089542873284608 h (div-up-to x rate 4390325089542873284608 4390325089542873284608 p exact-datagrams (datagrams-up-to n k) (mul-le-mul-left 4390325089542873284608 one))

@@ -8,7 +8,7 @@ use lib.Dec.{T}
 use lib.Ieee.{Float, binary64, mul, div, le, ofInt}
 use lib.Ieee.Positive.{num, den, den-pos, positive}
 use Rattle.double.specs.Whole.{most, ceilAt, ceilOf, roundAt}
-use Rattle.stream.specs.Elapsed.{perDatagram, slack, plausible, jumpLimit, restartMissing, accountTime, coveredTime}
+use Rattle.stream.specs.Elapsed.{perDatagram64, slack, plausible, jumpLimit, restartMissing, accountTime, coveredTime}
 use Rattle.double.proofs.Fractions.{ceil-rising, round-rising, nanos-rising}
 use Rattle.double.proofs.Wholes.{ceil-zero}
 use Rattle.double.proofs.Nanos.{nanos-zero}
@@ -34,7 +34,7 @@ module _ (a b : ℕ) (rate : Float) (h : a ≤ b) (l : b < 2 ^ 64) where
   pub jump-rising : UpTo rate 2097152 → jumpLimit a rate ≤ jumpLimit b rate
   unfolding jumpLimit plausible
   jump-rising r =
-      let q = div binary64 rate perDatagram in
+      let q = div binary64 rate perDatagram64 in
       added (ceilOf (plausible a rate)) (ceilOf (plausible b rate))
       (nat-rising ceilAt ceil-zero ceil-rising (plausible a rate) (plausible b rate)
       (mul-rising (mul binary64 (secondsOf a) q) (mul binary64 (secondsOf b) q) slack (plain-product a first) (plain-product b l) (timed q (plain-up-to q 8812 (rate-up-to rate r))) refl))
@@ -42,8 +42,8 @@ module _ (a b : ℕ) (rate : Float) (h : a ≤ b) (l : b < 2 ^ 64) where
       added : (v w : ℕ) → v ≤ w → min (v + 8192) most ≤ min (w + 8192) most
       added v w h = omega arith
 
-      plain-product : (ns : ℕ) → ns < 2 ^ 64 → Plain (mul binary64 (secondsOf ns) (div binary64 rate perDatagram))
-      plain-product ns k = plain-up-to (mul binary64 (secondsOf ns) (div binary64 rate perDatagram)) 162552708780088 (product-up-to ns rate k r)
+      plain-product : (ns : ℕ) → ns < 2 ^ 64 → Plain (mul binary64 (secondsOf ns) (div binary64 rate perDatagram64))
+      plain-product ns k = plain-up-to (mul binary64 (secondsOf ns) (div binary64 rate perDatagram64)) 162552708780088 (product-up-to ns rate k r)
 
   pub restart-rising : UpTo rate 488281 → restartMissing a rate ≤ restartMissing b rate
   restart-rising r =
@@ -79,8 +79,8 @@ module _ (n k : ℕ) (rate : Float) (h : n ≤ k) (l : k ≤ most) (p : T (posit
   pub covered-rising : coveredTime n rate ≤ coveredTime k rate
   unfolding coveredTime
   covered-rising =
-      let x = mul binary64 (ofInt binary64 (pos n)) perDatagram in
-      let y = mul binary64 (ofInt binary64 (pos k)) perDatagram in
+      let x = mul binary64 (ofInt binary64 (pos n)) perDatagram64 in
+      let y = mul binary64 (ofInt binary64 (pos k)) perDatagram64 in
       nanos-up (div binary64 x rate) (div binary64 y rate)
       (div-rising x y rate (plain-up-to x 4390325089542873284608 (datagrams-up-to n low)) (plain-up-to y 4390325089542873284608 (datagrams-up-to k l))
-      (mul-rising (ofInt binary64 (pos n)) (ofInt binary64 (pos k)) perDatagram (plain-nat n low) (plain-nat k l) (of-nat-rising n k h) refl) p)
+      (mul-rising (ofInt binary64 (pos n)) (ofInt binary64 (pos k)) perDatagram64 (plain-nat n low) (plain-nat k l) (of-nat-rising n k h) refl) p)

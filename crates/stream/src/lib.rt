@@ -11,7 +11,13 @@ use double::whole::saturating_add;
 // The I/Q pairs of a datagram.
 pub const SAMPLES_PER_DATAGRAM: u64 = 238;
 
-// The same as a double.
+// The bits of I and of Q in it.
+pub const BITS_PER_SAMPLE: u16 = 24;
+
+// The f32 of a datagram: I and Q of each pair.
+pub const F32_PER_DATAGRAM: usize = 2 * SAMPLES_PER_DATAGRAM as usize;
+
+// The pairs as a double.
 const PER_DATAGRAM: f64 = 238.0;
 
 // The datagrams that a socket buffer can hold at most, and so the most numbers that may wait.

@@ -31,6 +31,7 @@ use model::command::Streams;
 use model::sender::Sender;
 use model::session::Session;
 use sending::send::no_streams;
+use stream::F32_PER_DATAGRAM;
 
 // What a call gave: its answer, the streams that it wrote, and the session after it.
 pub(crate) struct Replied {
@@ -83,7 +84,7 @@ fn sender(address: u64, port: u64) -> Sender
 
 fn arrival(
     s: Session,
-    samples: &mut [f32; 476],
+    samples: &mut [f32; F32_PER_DATAGRAM],
     w: Words,
     datagram: &[u8],
     waiting: &[u32],
@@ -114,7 +115,7 @@ fn arrival(
     }
 }
 
-fn take(s: Session, samples: &[f32; 476], reading: u64, places: &mut [f32]) -> Replied
+fn take(s: Session, samples: &[f32; F32_PER_DATAGRAM], reading: u64, places: &mut [f32]) -> Replied
     ensures { λ r. ⌜ Replies r (now (samples .entry)) [] (now (places .exit)) (step (joined s (now (samples .entry))) (Take reading (now (places .entry)))) ⌝ }
 {
     let r = session::take::take(s, samples, reading, places);
@@ -187,7 +188,7 @@ fn stalled(s: Session) -> Replied
 // The call of these numbers. Buffers that its kind doesn't lend are left alone.
 pub(crate) fn call(
     s: Session,
-    samples: &mut [f32; 476],
+    samples: &mut [f32; F32_PER_DATAGRAM],
     w: Words,
     octets: &[u8],
     numbers: &[u32],

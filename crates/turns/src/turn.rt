@@ -12,11 +12,12 @@ use encoding::answer::put;
 use encoding::words::Amounts;
 use encoding::words::Words;
 use model::session::Session;
+use stream::F32_PER_DATAGRAM;
 
 // One call: its datagram and numbers are what lies between two amounts; of the other buffers its own parts are lent.
 fn turn(
     s: Session,
-    samples: &mut [f32; 476],
+    samples: &mut [f32; F32_PER_DATAGRAM],
     w: Words,
     from: Amounts,
     to: Amounts,
@@ -51,7 +52,7 @@ fn turn(
 // The same in the whole buffers; its answer goes to eight places from `at` on.
 pub fn turn_at(
     s: Session,
-    samples: &mut [f32; 476],
+    samples: &mut [f32; F32_PER_DATAGRAM],
     w: Words,
     from: Amounts,
     to: Amounts,

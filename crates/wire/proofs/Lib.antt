@@ -2,7 +2,3 @@
 pub mod Answers
 pub mod Writers
 pub mod ReadBack
-pub mod Samples
-pub mod Turns
-pub mod Headers
-pub mod Edges

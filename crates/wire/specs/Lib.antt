@@ -1,5 +1,3 @@
 -- The definitions that the contracts of `wire` cite, and those of the crates above it.
 pub mod Packet
 pub mod Status
-pub mod Iq
-pub mod Turn

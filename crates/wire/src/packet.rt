@@ -7,7 +7,7 @@ ghost use lib.ListN.{length};
 ghost use Rattle.octets.specs.Written.{written};
 ghost use Rattle.octets.specs.Packet.{packet, field};
 ghost use Rattle.wire.specs.Packet.{Sent, generalPacket, rxPacket, txPacket, highPacket};
-use super::iq::BITS_PER_SAMPLE;
+use stream::BITS_PER_SAMPLE;
 use tuning::board::BoardInfo;
 
 pub const GENERAL_LEN: usize = 60;

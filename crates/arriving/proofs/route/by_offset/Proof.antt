@@ -3,8 +3,8 @@ use mathlib.Core.Path.{subst}
 use mathlib.Core.List.{[], _∷_}
 use types.Run.{OneOf, miss}
 use denote.Enum.Declared.{tagOf}
-use Rattle.wire.proofs.iq.IqAnswer.{the-type}
-use Rattle.wire.specs.declared.iq.IqAnswer.{IqAnswer}
+use Rattle.iq.proofs.IqAnswer.{the-type}
+use Rattle.iq.specs.declared.IqAnswer.{IqAnswer}
 use Rattle.arriving.proofs.Routes.{header-refused, header-right, offset-status, offset-ignored, offset-past}
 use borrow.Author.Needs.{needs}
 use Rattle.arriving.proofs.route.by_offset.Statement.{statement}

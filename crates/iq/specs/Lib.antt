@@ -1,0 +1,3 @@
+-- The definitions that the contracts of `iq` cite, and those of the crates above it.
+pub mod Iq
+pub mod Turn

@@ -1,0 +1,1 @@
+-- `keepalive` needs no laws of its own: those of sending serve.

@@ -1,0 +1,1 @@
+-- `keepalive` cites the definitions of model and sending alone.
