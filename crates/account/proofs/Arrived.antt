@@ -22,10 +22,10 @@ use Rattle.model.specs.Host.{Incoming, Arrival, Step}
 use Rattle.model.specs.State.{State, left, waits, waitingIn, keeping}
 use Rattle.model.specs.Sample.{pairs}
 use Rattle.iq.specs.Iq as Iq
-use Rattle.model.specs.Hearing.{eventOf, restartOf, leftOut, accepted}
-use Rattle.model.specs.Arrival.{told, hear, heardAs, heardIq, overload, heardStatus, oneMore, heardMalformed, arrived, atLater, route, arrival}
+use Rattle.model.specs.Hearing.{eventOf, restartOf, leftOut, acceptedBy}
+use Rattle.model.specs.Arrival.{withoutPackets, hear, heardAs, heardIq, overload, heardStatus, oneMore, heardMalformed, arrived, atLater, route, arrival}
 use Rattle.account.specs.Whole.{fits, fitsBelow, verdict}
-use Rattle.account.specs.Book.{Quiet, Came, brought, news, Book, fitIn, belowIn, limitIn, restartIn, missingIn, judged}
+use Rattle.account.specs.Book.{Quiet, Came, brought, news, Book, fitIn, belowIn, limitIn, restartIn, missingIn, booked}
 use Rattle.account.specs.Ledger.{Entry, samplesOf}
 use Rattle.account.specs.Ledger as Ledger
 use Rattle.base.specs.Each.{Each}
@@ -78,10 +78,10 @@ module _ (s : Settings) (b : Book) (st : State) (n : ℕ) (h : Same s b st) (i :
 
   -- the entry's own part of what is kept
   pub record Enters (count : ℕ) (x : Step State) : Type 0 where
-    pub same : Same s (judged s b i n) (x .state)
+    pub same : Same s (booked s b i n) (x .state)
     pub right : Right s (the (x .reply .answer) count)
     pub exact : Exact s b (Came i count) n (tells (x .reply .answer))
-    pub flow : waitingOf (x .state) ≡ samplesOf (Ledger.accepted (the (x .reply .answer) count ∷ []))
+    pub flow : waitingOf (x .state) ≡ samplesOf (Ledger.acceptedIn (the (x .reply .answer) count ∷ []))
 
   ruled : Rules ev (fitIn (b .expected) (limitIn s b (i .now)) (b .run) n) (belowIn (b .expected) (b .run) n)
   ruled = rules (b .expected) (limitIn s b (i .now)) (b .run) n
@@ -127,10 +127,10 @@ module _ (s : Settings) (b : Book) (st : State) (n : ℕ) (h : Same s b st) (i :
         go InOrder q = refl
         go (Gap k) q = refl
         go Stale q = refl
-        go Restart q = rw (h .accepted, h .window, tracker-is (ap isStale (sym q))) refl
+        go Restart q = rw (h .acceptedAt, h .window, tracker-is (ap isStale (sym q))) refl
 
     hears : (m : ℕ) → m ≡ missingOf ev (restartIn s b i n) → Enters count (hear st i d count ev m)
-    unfolding hear accepted leftOut waitingIn
+    unfolding hear acceptedBy leftOut waitingIn
     hears m told =
         pick-either _ _ _ (Enters count)
         -- stale
@@ -144,7 +144,7 @@ module _ (s : Settings) (b : Book) (st : State) (n : ℕ) (h : Same s b st) (i :
                 tracker =
                     stale-tracker (st .session .receiver .tracker) (limitIn s b (i .now)) count (ap isStale seen-is ∙ t)
                     ∙ rw (h .tracker) (one-more (b .expected) (b .run));
-                accepted = h .accepted;
+                acceptedAt = h .acceptedAt;
                 taken = h .taken;
                 window = h .window;
                 size = h .size;
@@ -162,7 +162,7 @@ module _ (s : Settings) (b : Book) (st : State) (n : ℕ) (h : Same s b st) (i :
               (record {
                 settings = h .settings;
                 tracker = tracker-is f ∙ past-sent n;
-                accepted = refl;
+                acceptedAt = refl;
                 taken = h .taken;
                 window = rw (h .window) (ap (λ (k : ℕ). used (b .window) k) (exact-of m told count .1));
                 size = datagram-size (i .octets);
@@ -174,7 +174,7 @@ module _ (s : Settings) (b : Book) (st : State) (n : ℕ) (h : Same s b st) (i :
 
     event-is : eventOf (s .«sample_rate_hz») (st .session .receiver) (i .now) count ≡ ev
     unfolding eventOf
-    event-is = rw (h .accepted, h .window) seen-is
+    event-is = rw (h .acceptedAt, h .window) seen-is
 
     heard-as : Enters count (heardAs st i d count ev)
     unfolding heardAs
@@ -234,7 +234,7 @@ module _ (s : Settings) (b : Book) (st : State) (n : ℕ) (h : Same s b st) (i :
   Mute x = Fine (keeping (st .samples) x)
 
   module _ (quiet : (t : Bool) → news s (Arrival i d) t ≡ Quiet) where
-    ignored-keeps : Mute (told (done Answer.ignored) d (later .session))
+    ignored-keeps : Mute (withoutPackets (done Answer.ignored) d (later .session))
     ignored-keeps = still s b st n h (Arrival i d) _ (quiet false) refl refl refl (h .settings) refl refl refl refl refl refl
 
     status-keeps : (a : Attenuation) (bits : Told) → Mute (overload (later .session) i d a bits)
@@ -254,7 +254,7 @@ module _ (s : Settings) (b : Book) (st : State) (n : ℕ) (h : Same s b st) (i :
 
   same-later : Same s b later
   same-later =
-      record { settings = h .settings; tracker = h .tracker; accepted = h .accepted; taken = h .taken; window = h .window; size = h .size }
+      record { settings = h .settings; tracker = h .tracker; acceptedAt = h .acceptedAt; taken = h .taken; window = h .window; size = h .size }
 
   quiet-of : (p : Routed) → found s i ≡ p → brought i p ≡ Quiet → (t : Bool) → news s (Arrival i d) t ≡ Quiet
   quiet-of p e q true = refl

@@ -46,7 +46,7 @@ module _ (samples : List Float) (size : length samples ≡ 476) (s : Settings) (
 
   new-same : Same s (blank now) (record { session = newSession (khzOf (s .«sample_rate_hz»)) s now; samples = samples })
   unfolding newSession newCommon newReceiver
-  new-same = record { settings = refl; tracker = refl; accepted = refl; taken = refl; window = refl; size = size }
+  new-same = record { settings = refl; tracker = refl; acceptedAt = refl; taken = refl; window = refl; size = size }
 
   pub at-first : Same s (blank now) (openedWith samples s now)
   at-first = rw opens new-same

@@ -6,7 +6,7 @@ use mathlib.Core.Option.{Option, some, none}
 use native.Mathlib.Omega.{arith}
 use lib.Dec.{leb}
 use Rattle.base.proofs.Picks.{pick-either}
-use Rattle.sequence.specs.Tracker.{after, past, less, meant, judged, moved, observed}
+use Rattle.sequence.specs.Tracker.{after, past, less, meant, meaning, moved, observed}
 use Rattle.sequence.specs.declared.SeqEvent.{SeqEvent}
 use Rattle.sequence.specs.declared.SeqEvent.the-variants.{InOrder, Gap, Stale, Restart}
 use Rattle.sequence.specs.declared.SeqTracker.{SeqTracker}
@@ -57,9 +57,9 @@ module _ (t : SeqTracker) (lim seq : ℕ) where
   -- an accepted arrival sets the expected number and empties the stale run
   pub accepted-tracker : isStale (capped lim (observed t seq .event)) ≡ false → observed t seq .tracker ≡ past seq
   unfolding observed
-  accepted-tracker h = moved-on (judged (t .expected) (t .«stale_run») seq) (ap (λ (v : SeqEvent). isStale (capped lim v)) (sym (moved-event t seq (judged (t .expected) (t .«stale_run») seq))) ∙ h)
+  accepted-tracker h = moved-on (meaning (t .expected) (t .«stale_run») seq) (ap (λ (v : SeqEvent). isStale (capped lim v)) (sym (moved-event t seq (meaning (t .expected) (t .«stale_run») seq))) ∙ h)
 
   -- a stale one makes the stale run one longer, and that is all
   pub stale-tracker : isStale (capped lim (observed t seq .event)) ≡ true → observed t seq .tracker ≡ record { expected = t .expected; «stale_run» = t .«stale_run» + 1 }
   unfolding observed
-  stale-tracker h = stays (judged (t .expected) (t .«stale_run») seq) (ap (λ (v : SeqEvent). isStale (capped lim v)) (sym (moved-event t seq (judged (t .expected) (t .«stale_run») seq))) ∙ h)
+  stale-tracker h = stays (meaning (t .expected) (t .«stale_run») seq) (ap (λ (v : SeqEvent). isStale (capped lim v)) (sym (moved-event t seq (meaning (t .expected) (t .«stale_run») seq))) ∙ h)

@@ -40,7 +40,7 @@ module _ (s : Settings) where
   pub record Same (b : Book) (st : State) : Type 0 where
     pub settings : st .session .common .settings ≡ s
     pub tracker : st .session .receiver .tracker ≡ sentAs (b .expected) (b .run)
-    pub accepted : st .session .receiver .«last_accepted_iq» ≡ b .accepted
+    pub acceptedAt : st .session .receiver .«last_accepted_iq» ≡ b .acceptedAt
     pub taken : st .session .receiver .«read_returned» ≡ b .taken
     pub window : st .session .receiver .parked .window ≡ b .window
     pub size : length (st .samples) ≡ 476
@@ -64,7 +64,7 @@ module _ (s : Settings) where
         x .state .samples ≡ st .samples →
         Kept b st c n x
     unfolding waitingIn
-    still c x w e m g settings tracker accepted taken window queue samples =
+    still c x w e m g settings tracker acceptedAt taken window queue samples =
         record {
           keep = λ l.
               record {
@@ -73,7 +73,7 @@ module _ (s : Settings) where
                     (record {
                       settings = settings;
                       tracker = tracker ∙ h .tracker;
-                      accepted = accepted ∙ h .accepted;
+                      acceptedAt = acceptedAt ∙ h .acceptedAt;
                       taken = taken ∙ h .taken;
                       window = window ∙ h .window;
                       size = ap length samples ∙ h .size;
@@ -99,7 +99,7 @@ module _ (s : Settings) where
         record {
           keep = λ l.
               record {
-                same = record { settings = h .settings; tracker = h .tracker; accepted = h .accepted; taken = h .taken; window = cc (h .settings, h .taken, h .window); size = h .size };
+                same = record { settings = h .settings; tracker = h .tracker; acceptedAt = h .acceptedAt; taken = h .taken; window = cc (h .settings, h .taken, h .window); size = h .size };
                 right = tt;
                 also = (refl, refl);
                 flow = sym (append-nil (waitingOf st));
@@ -167,7 +167,7 @@ module _ (s : Settings) where
         record {
           keep = λ l.
               record {
-                same = record { settings = h .settings; tracker = h .tracker; accepted = h .accepted; taken = refl; window = h .window; size = h .size };
+                same = record { settings = h .settings; tracker = h .tracker; acceptedAt = h .acceptedAt; taken = refl; window = h .window; size = h .size };
                 right = tt;
                 also = (refl, refl);
                 flow = handed-out (min (length buffer / 2) (238 - st .session .receiver .«queue_pos»)) (st .session .receiver .«queue_pos») (st .samples) buffer (h .size) (omega arith);

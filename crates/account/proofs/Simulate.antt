@@ -8,7 +8,7 @@ use Rattle.model.specs.Sample.{Sample}
 use Rattle.model.specs.Host.{Call, Step, Host, trace, final}
 use Rattle.account.specs.Book.{News, Quiet, Began, Took, Came, news, Book, blank, noted}
 use Rattle.model.specs.Answer.{Tells, tells}
-use Rattle.account.specs.Ledger.{Sent, callsOf, gave, Line, lineOf, paired, handedOut, Entry, entry, ledger, lateEntry, accepted, samplesIn, samplesOf}
+use Rattle.account.specs.Ledger.{Sent, callsOf, gave, Line, lineOf, paired, handedOut, Entry, entry, ledger, lateEntry, acceptedIn, samplesIn, samplesOf}
 use Rattle.base.specs.Each.{Each}
 use Rattle.account.specs.Demand3.{Lies, Demand3}
 use Rattle.account.specs.Exact.{AllLines}
@@ -29,9 +29,9 @@ cond-append : (t : Bool) (x : Entry) (l m k : List Entry) → l ≡ m ++ k → c
 cond-append true x l m k e = e
 cond-append false x l m k e = ap (λ (z : List Entry). x ∷ z) e
 
-accepted-append : (xs ys : List Entry) → accepted (xs ++ ys) ≡ accepted xs ++ accepted ys
+accepted-append : (xs ys : List Entry) → acceptedIn (xs ++ ys) ≡ acceptedIn xs ++ acceptedIn ys
 accepted-append [] ys = refl
-accepted-append (x ∷ xs) ys = cond-append (lateEntry x) x (accepted (xs ++ ys)) (accepted xs) (accepted ys) (accepted-append xs ys)
+accepted-append (x ∷ xs) ys = cond-append (lateEntry x) x (acceptedIn (xs ++ ys)) (acceptedIn xs) (acceptedIn ys) (accepted-append xs ys)
 
 samples-append : (xs ys : List Entry) → samplesOf (xs ++ ys) ≡ samplesOf xs ++ samplesOf ys
 samples-append [] ys = refl
@@ -56,7 +56,7 @@ module _ (s : Settings) where
       pub same : R (noted s b (news s c ((tells (st .reply .answer)) .refusal)) n) (st .state)
       pub right : Each (Right s) (entry b (news s c ((tells (st .reply .answer)) .refusal)) n (tells (st .reply .answer)))
       pub also : P b (news s c ((tells (st .reply .answer)) .refusal)) n (tells (st .reply .answer))
-      pub flow : gave c (st .reply) ++ waiting (st .state) ≡ waiting at ++ samplesOf (accepted (entry b (news s c ((tells (st .reply .answer)) .refusal)) n (tells (st .reply .answer))))
+      pub flow : gave c (st .reply) ++ waiting (st .state) ≡ waiting at ++ samplesOf (acceptedIn (entry b (news s c ((tells (st .reply .answer)) .refusal)) n (tells (st .reply .answer))))
 
     -- the same, where its arrival lies as the demand says
     pub record Kept (b : Book) (at : S) (c : Call) (n : ℕ) (st : Step S) : Type 0 where
@@ -70,7 +70,7 @@ module _ (s : Settings) where
   pub record Whole (h : Host) (P : Book → News → ℕ → Tells → Type 0) (b : Book) (at : h .State) (cs : List Sent) : Type 0 where
     pub chain : Chained s (b .expected) (ledger s b (lines h at cs))
     pub also : AllLines s P b (lines h at cs)
-    pub flow : handedOut (lines h at cs) ++ h .waiting (final h at (callsOf cs)) ≡ h .waiting at ++ samplesOf (accepted (ledger s b (lines h at cs)))
+    pub flow : handedOut (lines h at cs) ++ h .waiting (final h at (callsOf cs)) ≡ h .waiting at ++ samplesOf (acceptedIn (ledger s b (lines h at cs)))
 
   -- one call more
   module _ (h : Host) (b : Book) (at : h .State) (c : Sent) (cs : List Sent) where
@@ -95,11 +95,11 @@ module _ (s : Settings) where
           chain = chain-of b (line .news) (line .number) (line .says) rest (k .right) (w .chain);
           also = (k .also, w .also);
           flow =
-              rw (accepted-append here rest, samples-append (accepted here) (accepted rest))
+              rw (accepted-append here rest, samples-append (acceptedIn here) (acceptedIn rest))
               (joined (line .out) (handedOut (lines h (st .state) cs)) (h .waiting (final h (st .state) (callsOf cs))) (h .waiting (st .state))
-              (samplesOf (accepted rest))
+              (samplesOf (acceptedIn rest))
               (h .waiting at)
-              (samplesOf (accepted here))
+              (samplesOf (acceptedIn here))
               (w .flow)
               (k .flow));
         }
@@ -118,7 +118,7 @@ module _ (s : Settings) where
           let entries : List Entry = ledger s (blank now) (lines h (h .opened s now) calls) in
           record {
             each = each s none entries (w .chain);
-            samples = w .flow ∙ ap (λ (l : List Sample). l ++ samplesOf (accepted entries)) none-waits;
+            samples = w .flow ∙ ap (λ (l : List Sample). l ++ samplesOf (acceptedIn entries)) none-waits;
             sums = stretches s entries (w .chain);
           }
 

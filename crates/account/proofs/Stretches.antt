@@ -10,8 +10,8 @@ use lib.ListN.{length, length-append}
 use lib.Dec.{T}
 use Rattle.sequence.specs.declared.SeqEvent.{SeqEvent}
 use Rattle.sequence.specs.declared.SeqEvent.the-variants.{InOrder, Gap, Stale, Restart}
-use Rattle.account.specs.Book.{Book, limitIn, judged}
-use Rattle.account.specs.Ledger.{Entry, fitting, lateEntry, accepted, samplesIn, samplesOf, missingTold, highest}
+use Rattle.account.specs.Book.{Book, limitIn, booked}
+use Rattle.account.specs.Ledger.{Entry, fitting, lateEntry, acceptedIn, samplesIn, samplesOf, missingTold, highest}
 use Rattle.base.specs.Each.{Each}
 use Rattle.account.specs.Demand3.{Judged, Stretch, Rising, Sums}
 use Rattle.account.specs.Exact.{verdictIn}
@@ -37,7 +37,7 @@ abbrev AddUp : ℕ → List Entry → ℕ → Type 0
 AddUp h l m = Rising h l × (length (samplesOf l) + m + 238 * h ≡ 238 * highest h l) × (h ≤ highest h l)
 
 abbrev Adds : ℕ → List Entry → Type 0
-Adds h xs = AddUp h (accepted xs) (missingTold xs)
+Adds h xs = AddUp h (acceptedIn xs) (missingTold xs)
 
 more : (h : ℕ) (x : Entry) (l : List Entry) (m k : ℕ) → h < x .number → m + 238 * (h + 1) ≡ 238 * x .number → length (samplesIn x) ≡ 238 → AddUp (x .number) l k → AddUp h (x ∷ l) (m + k)
 more h x l m k up eq w a = (
@@ -48,7 +48,7 @@ more h x l m k up eq w a = (
 
 -- an accepted entry, and those after it
 kept : (h : ℕ) (x : Entry) (ys : List Entry) → lateEntry x ≡ false → h < x .number → x .says .missing + 238 * (h + 1) ≡ 238 * x .number → length (samplesIn x) ≡ 238 → Adds (x .number) ys → Adds h (x ∷ ys)
-kept h x ys l up m w a = rw l (more h x (accepted ys) (x .says .missing) (missingTold ys) up m w a)
+kept h x ys l up m w a = rw l (more h x (acceptedIn ys) (x .says .missing) (missingTold ys) up m w a)
 
 -- a stale one
 skipped : (h : ℕ) (x : Entry) (ys : List Entry) → lateEntry x ≡ true → x .says .missing ≡ 0 → Adds h ys → Adds h (x ∷ ys)
@@ -85,7 +85,7 @@ module _ (s : Settings) where
   Chained o (x ∷ xs) = (x .book .expected ≡ o) × Right x × Chained (nextOf x) xs
 
   -- it is what the book expects after the entry
-  pub next-is : (x : Entry) → (judged s (x .book) (x .incoming) (x .number)) .expected ≡ nextOf x
+  pub next-is : (x : Entry) → (booked s (x .book) (x .incoming) (x .number)) .expected ≡ nextOf x
   next-is x = cond-expected (lateEntry x) _ _
 
   rules-at : (x : Entry) → Rules (verdictOf x) (fitting s x) (lateEntry x)

@@ -60,7 +60,7 @@ fits-hold = refl
 
 -- a book that expects a number since the reading `accepted`, in this window
 abbrev pub bookIn : ℕ → ℕ → Window → Book
-bookIn next accepted w = record { expected = some next; run = 0; accepted = accepted; taken = 0; window = w }
+bookIn next accepted w = record { expected = some next; run = 0; acceptedAt = accepted; taken = 0; window = w }
 
 abbrev misses : ℕ → ℕ → Window → Incoming → ℕ → ℕ → Case ℕ
 misses next accepted w i n is = case (missing usual (bookIn next accepted w) i n) is

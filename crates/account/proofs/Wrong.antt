@@ -36,7 +36,7 @@ use Rattle.model.specs.Close.{stop, close}
 use Rattle.model.specs.Host.{Begin, Close}
 use Rattle.model.specs.Session.{step}
 use Rattle.account.specs.Whole.{Near, fitsAbove, fitsBelow, fits}
-use Rattle.account.specs.Ledger.{Sent, Line, handedOut, Entry, accepted, samplesIn, samplesOf, missingTold, highest}
+use Rattle.account.specs.Ledger.{Sent, Line, handedOut, Entry, acceptedIn, samplesIn, samplesOf, missingTold, highest}
 use Rattle.account.specs.Demand3.{Agrees, Sums}
 use Rattle.account.proofs.WrongHosts.{Refuted}
 use Rattle.model.proofs.Pairs.{pairs-count, datagram-size, datagram-samples, none-past, handed-out}
@@ -56,12 +56,12 @@ samples-of [] = refl
 samples-of (x ∷ xs) = length-append (samplesIn x) (samplesOf xs) ∙ omega (arith, datagram-samples (x .incoming .octets), samples-of xs)
 
 -- a stretch's sum with its samples counted
-sum-of : (x : Entry) (xs : List Entry) → Sums x xs → 238 * length (x ∷ accepted xs) + missingTold xs ≡ 238 * (highest (x .number) (accepted xs) - x .number + 1)
-sum-of x xs s = ap (λ (k : ℕ). k + missingTold xs) (sym (samples-of (x ∷ accepted xs))) ∙ s .sum
+sum-of : (x : Entry) (xs : List Entry) → Sums x xs → 238 * length (x ∷ acceptedIn xs) + missingTold xs ≡ 238 * (highest (x .number) (acceptedIn xs) - x .number + 1)
+sum-of x xs s = ap (λ (k : ℕ). k + missingTold xs) (sym (samples-of (x ∷ acceptedIn xs))) ∙ s .sum
 
 -- as many samples were handed out or wait as were accepted
-handed-of : (s : Settings) (ls : List Line) (waiting : List Sample) (entries : List Entry) → Agrees s ls waiting entries → length (handedOut ls ++ waiting) ≡ 238 * length (accepted entries)
-handed-of s ls waiting entries a = ap length (a .samples) ∙ samples-of (accepted entries)
+handed-of : (s : Settings) (ls : List Line) (waiting : List Sample) (entries : List Entry) → Agrees s ls waiting entries → length (handedOut ls ++ waiting) ≡ 238 * length (acceptedIn entries)
+handed-of s ls waiting entries a = ap length (a .samples) ∙ samples-of (acceptedIn entries)
 
 -- a whole datagram handed out, and the same still waiting
 doubled : (l buffer : List Float) → length l ≡ 476 → length ((pairs (take 476 (written buffer 0 (take 476 l))) ++ []) ++ pairs l) ≡ 476
@@ -88,7 +88,7 @@ late = (refl, near 101 100 (omega arith) (omega arith))
 pub refuted : Refuted
 unfolding pick accepts settingsTold isRate rateAt first eq ofInt wholeCentre belowNyquist isWhole lt opened newSession newCommon newReceiver step
     begin begunBy orAt begun refilled arrival arrived routed byOffset headerTold rows heardIq heardAs hear eventOf capped observed meant less after zeroRestarts
-    elapsed jumpLimit plausible natOf secondsOf add mul div waits left Hearing.accepted used missingOf takeOut handOut handed fits fitsAbove fitsBelow
+    elapsed jumpLimit plausible natOf secondsOf add mul div waits left Hearing.acceptedBy used missingOf takeOut handOut handed fits fitsAbove fitsBelow
     restartMissing rounded sub outage restartOf waitingIn close stop leftOut heardMalformed oneMore
 refuted =
     record {

@@ -50,17 +50,17 @@ news s c false = newsOf s c
 pub record Book : Type 0 where
   pub expected : Option ℕ
   pub run : ℕ
-  pub accepted : ℕ
+  pub acceptedAt : ℕ
   pub taken : ℕ
   pub window : Window
 
 -- before the first call: both times are the opening reading, and no window is open
 abbrev pub blank : ℕ → Book
-blank now = record { expected = none; run = 0; accepted = now; taken = now; window = Shut }
+blank now = record { expected = none; run = 0; acceptedAt = now; taken = now; window = Shut }
 
 -- the jump limit for an arrival at `now`
 abbrev pub limitIn : Settings → Book → ℕ → ℕ
-limitIn s b now = jumpLimit (elapsed (s .«sample_rate_hz») (b .accepted) (b .window) now) (s .«sample_rate_hz»)
+limitIn s b now = jumpLimit (elapsed (s .«sample_rate_hz») (b .acceptedAt) (b .window) now) (s .«sample_rate_hz»)
 
 abbrev pub fitIn : Option ℕ → ℕ → ℕ → ℕ → Bool
 fitIn none limit run n = true
@@ -81,7 +81,7 @@ late b n = belowIn (b .expected) (b .run) n
 -- what it misses as a restart
 abbrev pub restartIn : Settings → Book → Incoming → ℕ → ℕ
 restartIn s b i n =
-    restartMissing (outage (s .«sample_rate_hz») (b .accepted) (b .window) (i .now) (i .later) (past n) (i .waiting)) (s .«sample_rate_hz»)
+    restartMissing (outage (s .«sample_rate_hz») (b .acceptedAt) (b .window) (i .now) (i .later) (past n) (i .waiting)) (s .«sample_rate_hz»)
 
 abbrev pub missingIn : Option ℕ → Bool → ℕ → ℕ → ℕ
 missingIn none fit restart n = 0
@@ -94,16 +94,16 @@ missing s b i n = missingIn (b .expected) (fit s b (i .now) n) (restartIn s b i 
 
 -- a number that fits below e makes the stale run one longer, and that is all; after any other the run is 0, e is the number that
 -- follows it, the accepted time is its reading, and the window is used by it and what it misses
-abbrev pub judged : Settings → Book → Incoming → ℕ → Book
-judged s b i n =
+abbrev pub booked : Settings → Book → Incoming → ℕ → Book
+booked s b i n =
     cond (late b n)
-    (record { expected = b .expected; run = b .run + 1; accepted = b .accepted; taken = b .taken; window = b .window })
-    (record { expected = some (n + 1); run = 0; accepted = i .now; taken = b .taken; window = used (b .window) (missing s b i n) })
+    (record { expected = b .expected; run = b .run + 1; acceptedAt = b .acceptedAt; taken = b .taken; window = b .window })
+    (record { expected = some (n + 1); run = 0; acceptedAt = i .now; taken = b .taken; window = used (b .window) (missing s b i n) })
 
 -- a Begin may open or refill the window, a Take is noted with its reading, and an arrival is judged
 abbrev pub noted : Settings → Book → News → ℕ → Book
 noted s b Quiet n = b
 noted s b (Began now) n =
-    record { expected = b .expected; run = b .run; accepted = b .accepted; taken = b .taken; window = begun (s .«park_window») (b .taken) (b .window) now }
-noted s b (Took now) n = record { expected = b .expected; run = b .run; accepted = b .accepted; taken = now; window = b .window }
-noted s b (Came i count) n = judged s b i n
+    record { expected = b .expected; run = b .run; acceptedAt = b .acceptedAt; taken = b .taken; window = begun (s .«park_window») (b .taken) (b .window) now }
+noted s b (Took now) n = record { expected = b .expected; run = b .run; acceptedAt = b .acceptedAt; taken = now; window = b .window }
+noted s b (Came i count) n = booked s b i n

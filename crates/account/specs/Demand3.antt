@@ -15,7 +15,7 @@ use Rattle.model.specs.Sample.{Sample}
 use Rattle.model.specs.Host.{Reply, Host, trace, final}
 use Rattle.account.specs.Whole.{Near}
 use Rattle.account.specs.Book.{blank}
-use Rattle.account.specs.Ledger.{Sent, callsOf, Line, paired, handedOut, Entry, ledger, fitting, lateEntry, accepted, samplesOf, missingTold, highest}
+use Rattle.account.specs.Ledger.{Sent, callsOf, Line, paired, handedOut, Entry, ledger, fitting, lateEntry, acceptedIn, samplesOf, missingTold, highest}
 use Rattle.model.specs.declared.settings.Settings.{Settings}
 
 abbrev pub NearIn : Option ℕ → ℕ → Type 0
@@ -43,14 +43,14 @@ Rising n (x ∷ xs) = (n < x .number) × Rising (x .number) xs
 
 -- in each stretch the accepted numbers rise, and samples + missing told after its first arrival = 238 × (highest - first + 1)
 pub record Sums (x : Entry) (xs : List Entry) : Type 0 where
-  pub rising : Rising (x .number) (accepted xs)
-  pub sum : length (samplesOf (x ∷ accepted xs)) + missingTold xs ≡ perDatagram * (highest (x .number) (accepted xs) - x .number + 1)
+  pub rising : Rising (x .number) (acceptedIn xs)
+  pub sum : length (samplesOf (x ∷ acceptedIn xs)) + missingTold xs ≡ perDatagram * (highest (x .number) (acceptedIn xs) - x .number + 1)
 
 -- the claim about the lines of a list, the samples that wait after it, and its arrivals
 pub record Agrees (s : Settings) (ls : List Line) (waiting : List Sample) (entries : List Entry) : Type 0 where
   pub each : Each (Judged s) entries
   -- what the Takes handed out and then what still waits: exactly the accepted arrivals' samples, as these came
-  pub samples : handedOut ls ++ waiting ≡ samplesOf (accepted entries)
+  pub samples : handedOut ls ++ waiting ≡ samplesOf (acceptedIn entries)
   pub sums : (before : List Entry) (x : Entry) (xs past : List Entry) → Stretch entries before x xs past → Sums x xs
 
 -- of calls, each with the whole number of the datagram that it brings, what they got back, and the samples that wait after them

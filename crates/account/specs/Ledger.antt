@@ -77,9 +77,9 @@ abbrev pub lateEntry : Entry → Bool
 lateEntry x = late (x .book) (x .number)
 
 -- all arrivals but those that fit below e, which are answered Stale
-abbrev pub accepted : List Entry → List Entry
-accepted [] = []
-accepted (x ∷ xs) = cond (lateEntry x) (accepted xs) (x ∷ accepted xs)
+abbrev pub acceptedIn : List Entry → List Entry
+acceptedIn [] = []
+acceptedIn (x ∷ xs) = cond (lateEntry x) (acceptedIn xs) (x ∷ acceptedIn xs)
 
 -- the samples of arrivals, in the datagrams' order
 abbrev pub samplesIn : Entry → List Sample

@@ -23,8 +23,8 @@ use Rattle.model.specs.Sending.{stepped, wrote}
 use Rattle.model.specs.Pass.{shut}
 use Rattle.model.specs.Parts.{with-common, with-receiver}
 use Rattle.model.specs.Rules.{isStale}
-use Rattle.model.specs.Hearing.{accepted, leftOut, counted}
-use Rattle.model.specs.Arrival.{told, heardCommon, hear, heardAs, heardIq, overload, heardStatus, oneMore, heardMalformed, arrived, atLater, route, arrival}
+use Rattle.model.specs.Hearing.{acceptedBy, leftOut, counted}
+use Rattle.model.specs.Arrival.{withoutPackets, heardCommon, hear, heardAs, heardIq, overload, heardStatus, oneMore, heardMalformed, arrived, atLater, route, arrival}
 use Rattle.model.specs.declared.receiver.Receiver.{Receiver}
 use Rattle.model.specs.declared.session.Attenuation.{Attenuation}
 use Rattle.model.specs.declared.session.Attenuation.the-variants.{Off, On}
@@ -103,7 +103,7 @@ module _ (st : State) (reading later : ℕ) (from : Sender) (octets waiting d : 
   -- a step of a datagram that was heard: these samples, this receiver
   abbrev stepped-so : Heard → InputHealthCounters → List Float → Receiver → Step State
   stepped-so q health samples after =
-      keeping samples (told (heard (q .event) (q .missing)) d (record { common = heardCommon health (st .session .common); receiver = after }))
+      keeping samples (withoutPackets (heard (q .event) (q .missing)) d (record { common = heardCommon health (st .session .common); receiver = after }))
 
   -- what the receiver heard is what the definition tells: of a stale one, and of an accepted one
   heard-so : (count : ℕ) (q : Heard) (e : List Float) → Hears rate (st .session .receiver) (st .session .common .health) (st .samples) reading later count octets waiting q e
@@ -118,12 +118,12 @@ module _ (st : State) (reading later : ℕ) (from : Sender) (octets waiting d : 
       ∙ ap (λ (x : SeqEvent). heardAs st i d count x) (g .event)
     where
       heardReceiver : Bool → Receiver
-      heardReceiver b = pick b (leftOut (st .session .receiver) reading count) (accepted rate (st .session .receiver) reading count (q .event) (q .missing))
+      heardReceiver b = pick b (leftOut (st .session .receiver) reading count) (acceptedBy rate (st .session .receiver) reading count (q .event) (q .missing))
 
       by-stale : (b : Bool)
           → stepped-so q (counted (q .event) (st .session .common .health)) (pick b (st .samples) (samplesOf octets)) (heardReceiver b)
           ≡ pick b (stepped-so q (counted (q .event) (st .session .common .health)) (st .samples) (leftOut (st .session .receiver) reading count))
-          (stepped-so q (counted (q .event) (st .session .common .health)) (samplesOf octets) (accepted rate (st .session .receiver) reading count (q .event) (q .missing)))
+          (stepped-so q (counted (q .event) (st .session .common .health)) (samplesOf octets) (acceptedBy rate (st .session .receiver) reading count (q .event) (q .missing)))
       by-stale true = refl
       by-stale false = refl
 
@@ -136,7 +136,7 @@ module _ (st : State) (reading later : ℕ) (from : Sender) (octets waiting d : 
 -- ---- a status packet
 
 module _ (s : Session) (i : Incoming) (d : List ℕ) where
-  pub status-off : s .common .attenuator .attenuation ≡ Off → heardStatus s i d ≡ told (done ignored) d s
+  pub status-off : s .common .attenuator .attenuation ≡ Off → heardStatus s i d ≡ withoutPackets (done ignored) d s
   unfolding heardStatus overload
   status-off e = ap (λ (a : Attenuation). overload s i d a (overloadTold (i .octets))) e
 
@@ -145,7 +145,7 @@ module _ (s : Session) (i : Incoming) (d : List ℕ) where
     unfolding heardStatus
     heard-on = ap (λ (a : Attenuation). overload s i d a (overloadTold (i .octets))) on ∙ ap (overload s i d (On controller)) (sym t)
 
-    pub status-unread : r ≡ NoBits → heardStatus s i d ≡ told (done ignored) d s
+    pub status-unread : r ≡ NoBits → heardStatus s i d ≡ withoutPackets (done ignored) d s
     unfolding overload
     status-unread e = heard-on ∙ ap (λ (x : OverloadBits). overload s i d (On controller) (overloadAnswer x)) e
 
@@ -162,13 +162,13 @@ module _ (s : Session) (d : List ℕ) (c : Common) (e : c ≡ oneMore (s .common
   limit-is b h = ap (λ (x : Common). leb (s .common .settings .«max_consecutive_malformed») (x .«consecutive_malformed»)) (sym e) ∙ h
 
   pub malformed-limit : (q : Receiver) → s .common .settings .«max_consecutive_malformed» ≤ c .«consecutive_malformed» → q ≡ shut (s .receiver)
-      → heardMalformed s d ≡ told (done malformedLimit) d (with-receiver (with-common s c) q)
+      → heardMalformed s d ≡ withoutPackets (done malformedLimit) d (with-receiver (with-common s c) q)
   unfolding heardMalformed
   malformed-limit q l h =
       pick-t _ _ _ (limit-is true (le-leb _ _ l))
-      ∙ ap (λ (x : Common). told (done malformedLimit) d (with-receiver (with-common s x) (shut (s .receiver)))) (sym e)
-      ∙ ap (λ (x : Receiver). told (done malformedLimit) d (with-receiver (with-common s c) x)) (sym h)
+      ∙ ap (λ (x : Common). withoutPackets (done malformedLimit) d (with-receiver (with-common s x) (shut (s .receiver)))) (sym e)
+      ∙ ap (λ (x : Receiver). withoutPackets (done malformedLimit) d (with-receiver (with-common s c) x)) (sym h)
 
-  pub malformed-on : c .«consecutive_malformed» < s .common .settings .«max_consecutive_malformed» → heardMalformed s d ≡ told (done malformed) d (with-common s c)
+  pub malformed-on : c .«consecutive_malformed» < s .common .settings .«max_consecutive_malformed» → heardMalformed s d ≡ withoutPackets (done malformed) d (with-common s c)
   unfolding heardMalformed
-  malformed-on l = pick-f _ _ _ (limit-is false (lt-leb _ _ l)) ∙ ap (λ (x : Common). told (done malformed) d (with-common s x)) (sym e)
+  malformed-on l = pick-f _ _ _ (limit-is false (lt-leb _ _ l)) ∙ ap (λ (x : Common). withoutPackets (done malformed) d (with-common s x)) (sym e)

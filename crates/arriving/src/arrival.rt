@@ -27,7 +27,7 @@ use stream::MAX_BUFFERED_DATAGRAMS;
 const ARRIVAL_LEN: usize = 1444;
 
 // An answer that wrote no packet.
-pub(crate) fn told(answer: ArrivalAnswer, session: Session) -> Arrived
+pub(crate) fn without_packets(answer: ArrivalAnswer, session: Session) -> Arrived
     ensures { λ r. ⌜ r ≡ record { answer = answer; streams = streamsAs []; session = session } ⌝ }
 {
     Arrived {
@@ -71,7 +71,7 @@ fn arrived(
             heard_iq(s, heard)
         }
         Route::Status => handle_status(s, reading, later, datagram, packets),
-        Route::Ignored => told(ArrivalAnswer::Ignored, s),
+        Route::Ignored => without_packets(ArrivalAnswer::Ignored, s),
         Route::Malformed => malformed(s),
     }
 }
@@ -90,22 +90,22 @@ pub fn arrival(
 {
     let receiver = s.receiver;
     if not_reading(s.common.closed, receiver) {
-        return told(ArrivalAnswer::NotNow, s);
+        return without_packets(ArrivalAnswer::NotNow, s);
     }
     if reading < s.common.last_reading {
-        return told(ArrivalAnswer::ReadingFell, s);
+        return without_packets(ArrivalAnswer::ReadingFell, s);
     }
     if waits(receiver) {
-        return told(ArrivalAnswer::SamplesWait, s);
+        return without_packets(ArrivalAnswer::SamplesWait, s);
     }
     if later < reading {
-        return told(ArrivalAnswer::LaterFell, s);
+        return without_packets(ArrivalAnswer::LaterFell, s);
     }
     if waiting.len() as u64 > MAX_BUFFERED_DATAGRAMS {
-        return told(ArrivalAnswer::TooManyWaiting, s);
+        return without_packets(ArrivalAnswer::TooManyWaiting, s);
     }
     if packets.len() < ARRIVAL_LEN {
-        return told(ArrivalAnswer::NoRoom, s);
+        return without_packets(ArrivalAnswer::NoRoom, s);
     }
     let mut next = s;
     next.common.last_reading = later;

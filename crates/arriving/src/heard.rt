@@ -4,7 +4,7 @@ ghost use mathlib.Core.List.{[]};
 ghost use Rattle.model.specs.Arrival.{heardCommon};
 ghost use Rattle.model.specs.Command.{streamsAs};
 ghost use Rattle.model.specs.declared.answer.ArrivalAnswer.the-variants.{Iq};
-use super::arrival::told;
+use super::arrival::without_packets;
 use health::InputHealthCounters;
 use model::answer::ArrivalAnswer;
 use model::answer::Arrived;
@@ -29,7 +29,7 @@ pub(crate) fn heard_iq(s: Session, h: Heard) -> Arrived
     let health = h.health;
     let receiver = h.receiver;
     let event = h.event;
-    told(
+    without_packets(
         ArrivalAnswer::Iq {
             event,
             missing: h.missing,

@@ -5,7 +5,7 @@ ghost use mathlib.Core.List.{List};
 ghost use Rattle.model.specs.Answer.{arrivalAnswer};
 ghost use Rattle.model.specs.Arrival.{oneMore, heardMalformed};
 ghost use Rattle.model.specs.Gives.{Gives};
-use super::arrival::told;
+use super::arrival::without_packets;
 use model::answer::ArrivalAnswer;
 use model::answer::Arrived;
 use model::session::Common;
@@ -46,7 +46,7 @@ pub(crate) fn malformed(s: Session) -> Arrived
         let receiver = s.receiver;
         let closed = shut(receiver);
         next.receiver = closed;
-        return told(ArrivalAnswer::MalformedLimit, next);
+        return without_packets(ArrivalAnswer::MalformedLimit, next);
     }
-    told(ArrivalAnswer::Malformed, next)
+    without_packets(ArrivalAnswer::Malformed, next)
 }

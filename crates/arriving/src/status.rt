@@ -6,7 +6,7 @@ ghost use Rattle.model.specs.Sending.{wrote};
 ghost use Rattle.model.specs.Sending as Sending;
 ghost use Rattle.model.specs.Gives.{Gives};
 ghost use Rattle.arriving.specs.Hears.{HearsStatus};
-use super::arrival::told;
+use super::arrival::without_packets;
 use attenuator::Stepped;
 use keepalive::apply_step;
 use model::answer::ArrivalAnswer;
@@ -51,11 +51,11 @@ pub(crate) fn handle_status(
     let attenuator = s.common.attenuator;
     let attenuation = attenuator.attenuation;
     let Attenuation::On(controller) = attenuation else {
-        return told(ArrivalAnswer::Ignored, s);
+        return without_packets(ArrivalAnswer::Ignored, s);
     };
     let overload = adc_overload_bits(datagram);
     let OverloadBits::Bits(bits) = overload else {
-        return told(ArrivalAnswer::Ignored, s);
+        return without_packets(ArrivalAnswer::Ignored, s);
     };
     let made = controller.observe(adc0_overload(bits), reading);
     stepped(s, made, later, packets)

@@ -10,11 +10,11 @@ use borrow.Author.Tests.{eqb-true, eq-eqb, ne-eqb}
 use Rattle.base.specs.Pick.{pick}
 use Rattle.base.proofs.Picks.{pick-t, pick-f}
 use Rattle.encoding.specs.Words.{wordsAt, isCall, takenBy, nothing, plus, within, Within}
-use Rattle.encoding.specs.Lists.{Lent, room, takenWith, checkFrom, toldIn, toldOf}
+use Rattle.encoding.specs.Lists.{Lent, room, takenWith, checkFrom, outcomeIn, outcomeOf}
 use Rattle.encoding.specs.declared.words.Words.{Words}
 use Rattle.encoding.specs.declared.words.Amounts.{Amounts}
-use Rattle.encoding.specs.declared.check.Told.{Told}
-use Rattle.encoding.specs.declared.check.Told.the-variants.{Ran, Lengths, NoCall, NoRoom}
+use Rattle.encoding.specs.declared.check.Outcome.{Outcome}
+use Rattle.encoding.specs.declared.check.Outcome.the-variants.{Ran, Lengths, NoCall, NoRoom}
 
 pub fine-next : (calls : List ℕ) (room : Amounts) (k i : ℕ) (taken : Amounts) → checkFrom calls room (suc k) i taken ≡ Ran
     → (isCall (wordsAt calls (8 * i)) ≡ true) × (within (takenWith calls i taken) room ≡ true) × (checkFrom calls room k (i + 1) (takenWith calls i taken) ≡ Ran)
@@ -30,7 +30,7 @@ fine-next calls room k i taken h = go (isCall (wordsAt calls (8 * i))) (within (
 
 module _ (calls : List ℕ) (room : Amounts) (n i : ℕ) (taken : Amounts) (now : i < n) where
   -- what is left of the walk
-  abbrev pub after : Told
+  abbrev pub after : Outcome
   after = checkFrom calls room (n - (i + 1)) (i + 1) (takenWith calls i taken)
 
   -- what the code worked out of this call's numbers
@@ -79,9 +79,9 @@ unfolding checkFrom
 all-checked calls room i taken k e = sym (ap (λ (j : ℕ). checkFrom calls room j i taken) e)
 
 -- a list that is run has whole calls, and as many places for answers
-pub lengths : (l : Lent) (a : ℕ) → toldOf l a ≡ Ran
+pub lengths : (l : Lent) (a : ℕ) → outcomeOf l a ≡ Ran
     → (length (l .calls) % 8 ≡ 0) × (a ≡ length (l .calls)) × (checkFrom (l .calls) (room l) (length (l .calls) / 8) 0 nothing ≡ Ran)
-unfolding toldIn pick
+unfolding outcomeIn pick
 lengths l a h = go (eqb (length (l .calls) % 8) 0) (eqb a (length (l .calls))) refl refl h
   where
     go : (b c : Bool) → eqb (length (l .calls) % 8) 0 ≡ b → eqb a (length (l .calls)) ≡ c
@@ -94,14 +94,14 @@ lengths l a h = go (eqb (length (l .calls) % 8) 0) (eqb a (length (l .calls))) r
 -- ---- whether a list is run
 
 module _ (calls : List ℕ) (room : Amounts) (answers : ℕ) where
-  pub not-whole : (length calls % 8 ≡ 0 → ⊥) → Lengths ≡ toldIn calls room answers
-  unfolding toldIn
+  pub not-whole : (length calls % 8 ≡ 0 → ⊥) → Lengths ≡ outcomeIn calls room answers
+  unfolding outcomeIn
   not-whole h = sym (pick-f _ _ _ (ne-eqb _ _ h))
 
-  pub not-as-many : length calls % 8 ≡ 0 → (answers ≡ length calls → ⊥) → Lengths ≡ toldIn calls room answers
-  unfolding toldIn
+  pub not-as-many : length calls % 8 ≡ 0 → (answers ≡ length calls → ⊥) → Lengths ≡ outcomeIn calls room answers
+  unfolding outcomeIn
   not-as-many h k = sym (pick-t _ _ _ (eq-eqb _ _ h) ∙ pick-f _ _ _ (ne-eqb _ _ k))
 
-  pub by-each : length calls % 8 ≡ 0 → answers ≡ length calls → (t : Told) → t ≡ checkFrom calls room (length calls / 8) 0 nothing → t ≡ toldIn calls room answers
-  unfolding toldIn
+  pub by-each : length calls % 8 ≡ 0 → answers ≡ length calls → (t : Outcome) → t ≡ checkFrom calls room (length calls / 8) 0 nothing → t ≡ outcomeIn calls room answers
+  unfolding outcomeIn
   by-each h k t e = e ∙ sym (pick-t _ _ _ (eq-eqb _ _ h) ∙ pick-t _ _ _ (eq-eqb _ _ k))

@@ -9,8 +9,8 @@ use Rattle.base.specs.Pick.{pick}
 use Rattle.model.specs.Host.{Call}
 use Rattle.encoding.specs.Words.{wordsAt, isCall, takenBy, nothing, plus, within, callOf}
 use Rattle.encoding.specs.declared.words.Amounts.{Amounts}
-use Rattle.encoding.specs.declared.check.Told.{Told}
-use Rattle.encoding.specs.declared.check.Told.the-variants.{Ran, NotOpened, Lengths, NoCall, NoRoom}
+use Rattle.encoding.specs.declared.check.Outcome.{Outcome}
+use Rattle.encoding.specs.declared.check.Outcome.the-variants.{Ran, NotOpened, Lengths, NoCall, NoRoom}
 
 -- what is lent, as it is at the call; the answers have a buffer of their own, of which nothing is read
 pub record Lent : Type 0 where
@@ -59,7 +59,7 @@ decoded l = callsFrom l (length (l .calls) / 8) 0 nothing
 
 -- ---- whether it is run
 
-unfoldable pub checkFrom : List ℕ → Amounts → ℕ → ℕ → Amounts → Told
+unfoldable pub checkFrom : List ℕ → Amounts → ℕ → ℕ → Amounts → Outcome
 checkFrom calls room zero i taken = Ran
 checkFrom calls room (suc k) i taken =
     pick (isCall (wordsAt calls (8 * i)))
@@ -67,14 +67,14 @@ checkFrom calls room (suc k) i taken =
     (NoCall i)
 
 -- with so much room, and so many places for answers
-unfoldable pub toldIn : List ℕ → Amounts → ℕ → Told
-toldIn calls room answers =
+unfoldable pub outcomeIn : List ℕ → Amounts → ℕ → Outcome
+outcomeIn calls room answers =
     pick (eqb (length calls % 8) 0) (pick (eqb answers (length calls)) (checkFrom calls room (length calls / 8) 0 nothing) Lengths) Lengths
 
-abbrev pub toldOf : Lent → ℕ → Told
-toldOf l answers = toldIn (l .calls) (room l) answers
+abbrev pub outcomeOf : Lent → ℕ → Outcome
+outcomeOf l answers = outcomeIn (l .calls) (room l) answers
 
-abbrev pub isRan : Told → Bool
+abbrev pub isRan : Outcome → Bool
 isRan Ran = true
 isRan NotOpened = false
 isRan Lengths = false

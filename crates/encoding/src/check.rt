@@ -3,7 +3,7 @@ ghost use mathlib.Core.Path.{_≡_};
 ghost use Prim.Native.Nat.{_/_};
 ghost use lib.ListN.{length};
 ghost use Rattle.encoding.specs.Words.{nothing};
-ghost use Rattle.encoding.specs.Lists.{checkFrom, toldIn, isRan};
+ghost use Rattle.encoding.specs.Lists.{checkFrom, outcomeIn, isRan};
 use super::words::Amounts;
 use super::words::CALL_LEN;
 use super::words::has_room;
@@ -14,7 +14,7 @@ use super::words::taken_by;
 use super::words::words_at;
 
 // Whether a list was run, or why not: then nothing was written, and the session is as it was.
-pub enum Told {
+pub enum Outcome {
     Ran,
     // the settings were refused
     NotOpened,
@@ -26,20 +26,20 @@ pub enum Told {
     NoRoom(usize),
 }
 
-pub fn is_ran(told: Told) -> bool
-    ensures { λ r. ⌜ r ≡ isRan told ⌝ }
+pub fn is_ran(outcome: Outcome) -> bool
+    ensures { λ r. ⌜ r ≡ isRan outcome ⌝ }
 {
-    match told {
-        Told::Ran => true,
-        Told::NotOpened => false,
-        Told::Lengths => false,
-        Told::NoCall(_) => false,
-        Told::NoRoom(_) => false,
+    match outcome {
+        Outcome::Ran => true,
+        Outcome::NotOpened => false,
+        Outcome::Lengths => false,
+        Outcome::NoCall(_) => false,
+        Outcome::NoRoom(_) => false,
     }
 }
 
 // Each call in turn: whether it is one, and has room.
-fn check_each(calls: &[u64], room: Amounts) -> Told
+fn check_each(calls: &[u64], room: Amounts) -> Outcome
     ensures { λ r. ⌜ r ≡ checkFrom (now (calls .entry)) room (length (now (calls .entry)) / 8) 0 nothing ⌝ }
 {
     let n = calls.len() / CALL_LEN;
@@ -48,27 +48,27 @@ fn check_each(calls: &[u64], room: Amounts) -> Told
     while i < n {
         let w = words_at(calls, 8 * i);
         if !is_call(w) {
-            return Told::NoCall(i);
+            return Outcome::NoCall(i);
         }
         let need = taken_by(w);
         if !has_room(taken, need, room) {
-            return Told::NoRoom(i);
+            return Outcome::NoRoom(i);
         }
         taken = plus(taken, need, room);
         i += 1;
     }
-    Told::Ran
+    Outcome::Ran
 }
 
 // Whether a list is run, with so many places for answers.
-pub fn check(calls: &[u64], room: Amounts, answers: usize) -> Told
-    ensures { λ r. ⌜ r ≡ toldIn (now (calls .entry)) room answers ⌝ }
+pub fn check(calls: &[u64], room: Amounts, answers: usize) -> Outcome
+    ensures { λ r. ⌜ r ≡ outcomeIn (now (calls .entry)) room answers ⌝ }
 {
     if calls.len() % CALL_LEN != 0 {
-        return Told::Lengths;
+        return Outcome::Lengths;
     }
     if answers != calls.len() {
-        return Told::Lengths;
+        return Outcome::Lengths;
     }
     check_each(calls, room)
 }

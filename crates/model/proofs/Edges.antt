@@ -30,7 +30,7 @@ use Rattle.model.specs.Rules.{begun, refilled, used, elapsed, capped, ou
 use Rattle.model.specs.State.{left, waits}
 use Rattle.model.specs.Open.{newCommon, newReceiver, newSession, opened}
 use Rattle.model.specs.Begin.{orAt, begunBy, begin}
-use Rattle.model.specs.Hearing.{eventOf, restartOf, leftOut, accepted}
+use Rattle.model.specs.Hearing.{eventOf, restartOf, leftOut, acceptedBy}
 use Rattle.model.specs.Arrival.{hear, heardAs, heardIq, arrived, arrival}
 use Rattle.model.specs.Take.{handed, handOut, takeOut}
 use Rattle.model.specs.Drain.{takeMissing, takeDiscontinuity}
@@ -82,6 +82,6 @@ edges =
 pub edges-hold : Hold edges
 unfolding pick accepts settingsTold isRate rateAt first khzOf eq ofInt wholeCentre belowNyquist isWhole lt opened newSession newCommon newReceiver step
     begin begunBy orAt begun refilled arrival arrived routed byOffset headerTold rows heardIq heardAs hear eventOf capped
-    Sequence.observed Sequence.meant Sequence.less Sequence.after Sequence.zeroRestarts elapsed jumpLimit plausible natOf secondsOf add mul div waits left accepted leftOut used missingOf
+    Sequence.observed Sequence.meant Sequence.less Sequence.after Sequence.zeroRestarts elapsed jumpLimit plausible natOf secondsOf add mul div waits left acceptedBy leftOut used missingOf
     takeOut handOut handed restartMissing rounded sub outage restartOf pendingAfter added belowHalf takeMissing takeDiscontinuity round
 edges-hold = refl

@@ -41,7 +41,7 @@ use Rattle.iq.specs.Iq.{headerTold, rows}
 use Rattle.sequence.specs.Tracker.{past}
 use Rattle.sequence.specs.Tracker as Sequence
 use Rattle.sequence.specs.declared.Expected.the-variants.{Next}
-use Rattle.model.specs.Hearing.{eventOf, restartOf, leftOut, accepted}
+use Rattle.model.specs.Hearing.{eventOf, restartOf, leftOut, acceptedBy}
 use Rattle.model.specs.Arrival.{hear, heardAs, heardIq, oneMore, heardMalformed, arrived, arrival}
 
 abbrev num : ℕ → ℕ → Case Given
@@ -282,13 +282,13 @@ unfolding pick settingsTold isRate rateAt first khzOf eq ofInt wholeCentre below
 rows-hold = refl
 
 pub arrivals-hold : Hold arrivalCases
-unfolding pick newCommon step arrival arrived routed byOffset headerTold rows heardIq heardAs hear eventOf restartOf capped accepted leftOut used missingOf waits left
+unfolding pick newCommon step arrival arrived routed byOffset headerTold rows heardIq heardAs hear eventOf restartOf capped acceptedBy leftOut used missingOf waits left
     Sequence.observed Sequence.meant Sequence.less Sequence.after Sequence.zeroRestarts elapsed jumpLimit plausible natOf secondsOf ofInt add sub mul div
     restartMissing rounded round outage uncovered backlog datagrams accountTime coveredTime
 arrivals-hold = refl
 
 pub kept-hold : Hold keptCases
-unfolding pick newCommon step arrival arrived routed byOffset headerTold rows heardIq heardAs hear heardMalformed oneMore eventOf restartOf capped accepted leftOut
+unfolding pick newCommon step arrival arrived routed byOffset headerTold rows heardIq heardAs hear heardMalformed oneMore eventOf restartOf capped acceptedBy leftOut
     used missingOf waits left quietSince Sequence.observed Sequence.meant Sequence.less Sequence.after Sequence.zeroRestarts elapsed jumpLimit plausible natOf
     secondsOf ofInt add sub mul div accountTime isDue pass passed stallSoft close stop
 kept-hold = refl

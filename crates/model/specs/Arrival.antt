@@ -26,13 +26,13 @@ use Rattle.model.specs.declared.session.Attenuation.{Attenuation}
 use Rattle.model.specs.declared.session.Attenuation.the-variants.{Off, On}
 use Rattle.model.specs.declared.session.Common.{Common}
 use Rattle.model.specs.declared.session.Session.{Session}
-use Rattle.model.specs.Hearing.{eventOf, restartOf, leftOut, accepted, counted}
+use Rattle.model.specs.Hearing.{eventOf, restartOf, leftOut, acceptedBy, counted}
 
 -- ---- the session, of which every refusal was tested and the last reading is the later one
 
 -- nothing was written
-abbrev pub told : Answer → List ℕ → Session → Step Session
-told answer d s = replied answer [] d [] s
+abbrev pub withoutPackets : Answer → List ℕ → Session → Step Session
+withoutPackets answer d s = replied answer [] d [] s
 
 -- valid I/Q zeroes the malformed count
 abbrev pub heardCommon : InputHealthCounters → Common → Common
@@ -43,12 +43,12 @@ unfoldable pub hear : State → Incoming → List ℕ → ℕ → SeqEvent → �
 hear st i d count event missing =
     let s = st .session in
     pick (isStale event)
-    (keeping (st .samples) (told (heard event missing) d
+    (keeping (st .samples) (withoutPackets (heard event missing) d
     (record { common = heardCommon (counted event (s .common .health)) (s .common); receiver = leftOut (s .receiver) (i .now) count })))
-    (keeping (samplesOf (i .octets)) (told (heard event missing) d
+    (keeping (samplesOf (i .octets)) (withoutPackets (heard event missing) d
     (record {
       common = heardCommon (counted event (s .common .health)) (s .common);
-      receiver = accepted (s .common .settings .«sample_rate_hz») (s .receiver) (i .now) count event missing;
+      receiver = acceptedBy (s .common .settings .«sample_rate_hz») (s .receiver) (i .now) count event missing;
     })))
 
 -- the arrival of the number count: its event, and its missing
@@ -63,11 +63,11 @@ heardIq st i d count =
 -- a status packet: with attenuation on and 60 octets long the controller hears its overload bit at the arrival's reading, and a
 -- step up writes its packet, whose clock takes the later reading; else it is ignored
 unfoldable pub overload : Session → Incoming → List ℕ → Attenuation → Told → Step Session
-overload s i d Off bits = told (done ignored) d s
-overload s i d (On controller) (gives []) = told (done ignored) d s
+overload s i d Off bits = withoutPackets (done ignored) d s
+overload s i d (On controller) (gives []) = withoutPackets (done ignored) d s
 overload s i d (On controller) (gives (bits ∷ vs)) =
     wrote (done status) s d (stepped (i .later) (Controller.observed controller (overloaded bits) (i .now)) (s .common))
-overload s i d (On controller) (refused k vs) = told (done ignored) d s
+overload s i d (On controller) (refused k vs) = withoutPackets (done ignored) d s
 
 unfoldable pub heardStatus : Session → Incoming → List ℕ → Step Session
 heardStatus s i d = overload s i d (s .common .attenuator .attenuation) (overloadTold (i .octets))
@@ -82,13 +82,13 @@ unfoldable pub heardMalformed : Session → List ℕ → Step Session
 heardMalformed s d =
     let after = with-common s (oneMore (s .common)) in
     pick (leb (s .common .settings .«max_consecutive_malformed») (after .common .«consecutive_malformed»))
-    (told (done malformedLimit) d (with-receiver after (shut (s .receiver))))
-    (told (done malformed) d after)
+    (withoutPackets (done malformedLimit) d (with-receiver after (shut (s .receiver))))
+    (withoutPackets (done malformed) d after)
 
 unfoldable pub arrived : State → Incoming → List ℕ → Routed → Step State
 arrived st i d (Routing.iq count) = heardIq st i d count
 arrived st i d Routing.status = keeping (st .samples) (heardStatus (st .session) i d)
-arrived st i d Routing.ignored = keeping (st .samples) (told (done ignored) d (st .session))
+arrived st i d Routing.ignored = keeping (st .samples) (withoutPackets (done ignored) d (st .session))
 arrived st i d Routing.malformed = keeping (st .samples) (heardMalformed (st .session) d)
 
 -- the later reading becomes the last accepted one

@@ -38,8 +38,8 @@ queued r now missing pending =
     with-last-accepted-iq (with-pending (with-parked (with-queue-pos r 0) (record { window = used (r .parked .window) missing })) pending) now
 
 -- any other event: its samples wait, and its missing is told, added to the account and put into a slot
-unfoldable pub accepted : Float → Receiver → ℕ → ℕ → SeqEvent → ℕ → Receiver
-accepted rate r now count event missing = queued (leftOut r now count) now missing (pendingAfter rate event missing (r .pending))
+unfoldable pub acceptedBy : Float → Receiver → ℕ → ℕ → SeqEvent → ℕ → Receiver
+acceptedBy rate r now count event missing = queued (leftOut r now count) now missing (pendingAfter rate event missing (r .pending))
 
 -- a gap of k counts k dropped datagrams and one gap, a restart just one gap
 unfoldable pub counted : SeqEvent → InputHealthCounters → InputHealthCounters

@@ -21,7 +21,7 @@ use Rattle.sequence.specs.declared.SeqEvent.{SeqEvent}
 use Rattle.sequence.specs.declared.SeqEvent.the-variants.{InOrder, Gap, Stale, Restart}
 use Rattle.health.specs.declared.InputHealthCounters.{InputHealthCounters}
 use Rattle.model.specs.Rules.{elapsed, capped, missingOf, pendingAfter, isStale}
-use Rattle.model.specs.Hearing.{valid, eventOf, restartOf, leftOut, queued, accepted, counted}
+use Rattle.model.specs.Hearing.{valid, eventOf, restartOf, leftOut, queued, acceptedBy, counted}
 use Rattle.model.specs.Parts.{with-tracker}
 use Rattle.model.specs.declared.receiver.Receiver.{Receiver}
 use Rattle.outage.specs.Report.{reportOf}
@@ -89,7 +89,7 @@ module _ (rate : Float) (r : Receiver) (health : InputHealthCounters) (samples :
       → Hears rate r health samples reading later count octets waiting
       (record { event = j .event; missing = report .missing; receiver = after; health = report .health })
       e
-  unfolding reportOf accepted leftOut
+  unfolding reportOf acceptedBy leftOut
   heard-accepted report after e n hr ha hs =
       let f = not-stale (j .event) n in
       let m : report .missing ≡ missingOf (j .event) (restartOf rate (j .receiver) reading later waiting) = ap (λ (x : Report). x .missing) hr in

@@ -7,7 +7,7 @@ use Rattle.base.specs.Pick.{pick}
 use Rattle.iq.specs.Iq.{samplesOf}
 use Rattle.health.specs.declared.InputHealthCounters.{InputHealthCounters}
 use Rattle.model.specs.Rules.{missingOf, isStale}
-use Rattle.model.specs.Hearing.{eventOf, restartOf, leftOut, accepted, counted}
+use Rattle.model.specs.Hearing.{eventOf, restartOf, leftOut, acceptedBy, counted}
 use Rattle.model.specs.declared.receiver.Receiver.{Receiver}
 use Rattle.receiving.specs.declared.hear.Heard.{Heard}
 
@@ -16,6 +16,6 @@ pub record Hears (rate : Float) (r : Receiver) (counts : InputHealthCounters) (l
     (e : List Float) : Type 0 where
   pub event : h .event ≡ eventOf rate r reading count
   pub missing : h .missing ≡ missingOf (h .event) (restartOf rate (leftOut r reading count) reading later waiting)
-  pub receiver : h .receiver ≡ pick (isStale (h .event)) (leftOut r reading count) (accepted rate r reading count (h .event) (h .missing))
+  pub receiver : h .receiver ≡ pick (isStale (h .event)) (leftOut r reading count) (acceptedBy rate r reading count (h .event) (h .missing))
   pub health : h .health ≡ counted (h .event) counts
   pub samples : e ≡ pick (isStale (h .event)) lent (samplesOf octets)

@@ -17,12 +17,12 @@ use Rattle.account.specs.Demand3.{Account}
 use Rattle.model.proofs.Traces.{trace-append, final-append}
 use Rattle.account.proofs.Demand3.{demand3}
 use Rattle.model.specs.declared.settings.Settings.{Settings}
-use Rattle.encoding.specs.Lists.{Lent, decoded, toldOf, isRan}
+use Rattle.encoding.specs.Lists.{Lent, decoded, outcomeOf, isRan}
 use Rattle.replay.specs.Runs.{host, Left, allRun, carried, Carries}
 use Rattle.replay.specs.Replay.{repliesIn, numbered}
 use Rattle.replay.specs.Chunks.{Runs}
-use Rattle.encoding.specs.declared.check.Told.{Told}
-use Rattle.encoding.specs.declared.check.Told.the-variants.{Ran, NotOpened, Lengths, NoCall, NoRoom}
+use Rattle.encoding.specs.declared.check.Outcome.{Outcome}
+use Rattle.encoding.specs.declared.check.Outcome.the-variants.{Ran, NotOpened, Lengths, NoCall, NoRoom}
 use Rattle.encoding.proofs.Checks.{lengths}
 use Rattle.replay.proofs.ReadBack.{read-back}
 
@@ -30,7 +30,7 @@ use Rattle.replay.proofs.ReadBack.{read-back}
 pub runs-append : (st mid end : State) (a b : List Call) (ra rb : List Reply) → Runs st a ra mid → Runs mid b rb end → Runs st (a ++ b) (ra ++ rb) end
 runs-append st mid end a b ra rb x y =
     record {
-      told = rw (x .told, y .told, x .left) (sym (trace-append host st a b));
+      outcome = rw (x .outcome, y .outcome, x .left) (sym (trace-append host st a b));
       left = y .left ∙ ap (λ (s : State). final host s b) (x .left) ∙ sym (final-append host st a b);
     }
 
@@ -54,7 +54,7 @@ runs-account s opening samples cs rs st ok size r numbers =
     let st₀ = openedWith samples s opening in
     let n = numbered cs numbers in
     let t : rs ≡ trace (session samples) st₀ (callsOf n) =
-    r .told ∙ sym (trace-any samples st₀ cs) ∙ ap (trace (session samples) st₀) (sym (calls-of cs numbers)) in
+    r .outcome ∙ sym (trace-any samples st₀ cs) ∙ ap (trace (session samples) st₀) (sym (calls-of cs numbers)) in
     let f : st ≡ final (session samples) st₀ (callsOf n) =
     r .left ∙ sym (final-any samples st₀ cs) ∙ ap (final (session samples) st₀) (sym (calls-of cs numbers)) in
     subst (λ (y : List Reply). Account s opening n y (waitingIn (st .session .receiver) (st .samples))) (sym t)
@@ -63,33 +63,33 @@ runs-account s opening samples cs rs st ok size r numbers =
 
 -- ---- what the code left
 
-pub ran-is : (t : Told) → isRan t ≡ true → t ≡ Ran
+pub ran-is : (t : Outcome) → isRan t ≡ true → t ≡ Ran
 ran-is Ran h = refl
 ran-is NotOpened h = let z : _≡_ {A = ℕ} 0 1 = cc in absurd (omega arith)
 ran-is Lengths h = let z : _≡_ {A = ℕ} 0 1 = cc in absurd (omega arith)
 ran-is (NoCall i) h = let z : _≡_ {A = ℕ} 0 1 = cc in absurd (omega arith)
 ran-is (NoRoom i) h = let z : _≡_ {A = ℕ} 0 1 = cc in absurd (omega arith)
 
-module _ (told : Told) (st : State) (l : Lent) (answers₀ answers packets : List ℕ) (places : List Float) (st′ : State)
-    (c : Carries told st l answers₀ answers packets places st′) (e : told ≡ Ran) where
+module _ (outcome : Outcome) (st : State) (l : Lent) (answers₀ answers packets : List ℕ) (places : List Float) (st′ : State)
+    (c : Carries outcome st l answers₀ answers packets places st′) (e : outcome ≡ Ran) where
   -- it was run
-  fine-list : toldOf l (length answers₀) ≡ Ran
+  fine-list : outcomeOf l (length answers₀) ≡ Ran
   unfolding carried
-  fine-list = go (isRan (toldOf l (length answers₀))) refl
+  fine-list = go (isRan (outcomeOf l (length answers₀))) refl
     where
-      go : (b : Bool) → isRan (toldOf l (length answers₀)) ≡ b → toldOf l (length answers₀) ≡ Ran
+      go : (b : Bool) → isRan (outcomeOf l (length answers₀)) ≡ b → outcomeOf l (length answers₀) ≡ Ran
       go true h = ran-is _ h
       go false h =
-          sym (ap (λ (x : Left). x .told) (c .leaves ∙ pick-f _ _ _ h)) ∙ e
+          sym (ap (λ (x : Left). x .outcome) (c .leaves ∙ pick-f _ _ _ h)) ∙ e
 
-  all-left : record { told = told; answers = answers; packets = packets; places = places; state = st′ } ≡ allRun st l
+  all-left : record { outcome = outcome; answers = answers; packets = packets; places = places; state = st′ } ≡ allRun st l
   unfolding carried
   all-left = c .leaves ∙ pick-t _ _ _ (ap isRan fine-list)
 
   pub carries-runs : Runs st (decoded l) (repliesIn (l .calls) answers packets places) st′
   carries-runs =
       record {
-        told =
+        outcome =
             read-back l st answers packets places ((lengths l (length answers₀) fine-list) .2) (ap (λ (x : Left). x .answers) all-left)
             (ap (λ (x : Left). x .packets) all-left)
             (ap (λ (x : Left). x .places) all-left);

@@ -20,7 +20,7 @@ use Rattle.encoding.specs.Code.{numbersIn, answerIn, streamsIn}
 use Rattle.replay.specs.Runs.{host, all, packetsIn, bufferIn}
 use Rattle.replay.specs.Replay.{replyAt, repliesFrom, repliesIn}
 use Rattle.encoding.specs.declared.words.Amounts.{Amounts}
-use Rattle.encoding.specs.declared.check.Told.the-variants.{Ran}
+use Rattle.encoding.specs.declared.check.Outcome.the-variants.{Ran}
 use Rattle.encoding.proofs.Fitting.{within-says}
 use Rattle.encoding.proofs.Checks.{fine-next}
 use Rattle.encoding.proofs.Decodes.{numbers-size, answer-is, streams-are}

@@ -18,33 +18,33 @@ use Rattle.model.specs.declared.settings.Settings.{Settings}
 use Rattle.model.specs.declared.settings.SettingsAnswer.{SettingsAnswer}
 use Rattle.opening.specs.Opens.{Opens}
 use Rattle.model.specs.Gives.{joined}
-use Rattle.encoding.specs.Lists.{Lent, toldOf, isRan}
+use Rattle.encoding.specs.Lists.{Lent, outcomeOf, isRan}
 use Rattle.replay.specs.Runs.{untouched, carried, Carries, RunsAll}
 use Rattle.replay.specs.Replay.{replayed, Replays}
-use Rattle.encoding.specs.declared.check.Told.{Told}
-use Rattle.encoding.specs.declared.check.Told.the-variants.{Ran, NotOpened}
+use Rattle.encoding.specs.declared.check.Outcome.{Outcome}
+use Rattle.encoding.specs.declared.check.Outcome.the-variants.{Ran, NotOpened}
 use Rattle.replay.proofs.Chunks.{ran-is, carries-runs, runs-account}
 
 -- ---- carried on
 
-module _ (told : Told) (b : Bool) (st : State) (l : Lent) (answers₀ : List ℕ) (e : told ≡ toldOf l (length answers₀)) (h : b ≡ isRan told) where
-  pub ran-told : not b ≡ false → toldOf l (length answers₀) ≡ Ran
+module _ (outcome : Outcome) (b : Bool) (st : State) (l : Lent) (answers₀ : List ℕ) (e : outcome ≡ outcomeOf l (length answers₀)) (h : b ≡ isRan outcome) where
+  pub ran-told : not b ≡ false → outcomeOf l (length answers₀) ≡ Ran
   ran-told k = ran-is _ (ap isRan (sym e) ∙ sym h ∙ not-false _ k)
 
-  pub refused-list : not b ≡ true → Carries told st l answers₀ answers₀ (l .packets) (l .places) st
+  pub refused-list : not b ≡ true → Carries outcome st l answers₀ answers₀ (l .packets) (l .places) st
   unfolding carried
   refused-list k =
-      let f : isRan (toldOf l (length answers₀)) ≡ false = ap isRan (sym e) ∙ sym h ∙ not-true _ k in
-      record { leaves = ap (λ (t : Told). untouched t st l answers₀) e ∙ sym (pick-f _ _ _ f) }
+      let f : isRan (outcomeOf l (length answers₀)) ≡ false = ap isRan (sym e) ∙ sym h ∙ not-true _ k in
+      record { leaves = ap (λ (t : Outcome). untouched t st l answers₀) e ∙ sym (pick-f _ _ _ f) }
 
   pub run-list : not b ≡ false → (answers packets : List ℕ) (places : List Float) (st′ : State) → RunsAll st l answers packets places st′
-      → Carries told st l answers₀ answers packets places st′
+      → Carries outcome st l answers₀ answers packets places st′
   unfolding carried
   run-list k answers packets places st′ r =
       let g = ran-told k in
       record {
         leaves =
-            ap (λ (t : Told). record { told = t; answers = answers; packets = packets; places = places; state = st′ }) (e ∙ g)
+            ap (λ (t : Outcome). record { outcome = t; answers = answers; packets = packets; places = places; state = st′ }) (e ∙ g)
             ∙ r .leaves
             ∙ sym (pick-t _ _ _ (ap isRan g));
       }
@@ -67,15 +67,15 @@ module _ (s : Settings) (opening : ℕ) (answer : SettingsAnswer) (x : Session) 
         account = λ e numbers. let z : _≡_ {A = ℕ} 0 1 = cc in absurd (omega arith);
       }
 
-  pub replays : not b ≡ false → length samples ≡ 476 → (told : Told) (answers packets : List ℕ) (places : List Float) (st : State)
-      → Carries told (joined x samples) l answers₀ answers packets places st → Replays s opening answer told samples l answers₀ answers packets places st
+  pub replays : not b ≡ false → length samples ≡ 476 → (outcome : Outcome) (answers packets : List ℕ) (places : List Float) (st : State)
+      → Carries outcome (joined x samples) l answers₀ answers packets places st → Replays s opening answer outcome samples l answers₀ answers packets places st
   unfolding replayed
-  replays k size told answers packets places st c =
+  replays k size outcome answers packets places st c =
       let f = accepts-is true (not-false _ k) in
-      let d : Carries told (openedWith samples s opening) l answers₀ answers packets places st =
-      subst (λ (t : Session). Carries told (joined t samples) l answers₀ answers packets places st) (o .leaves) c in
+      let d : Carries outcome (openedWith samples s opening) l answers₀ answers packets places st =
+      subst (λ (t : Session). Carries outcome (joined t samples) l answers₀ answers packets places st) (o .leaves) c in
       record {
         opens = o .answers;
         leaves = d .leaves ∙ sym (pick-t _ _ _ f);
-        account = λ e. runs-account s opening samples _ _ st (subst T (sym f) tt) size (carries-runs told (openedWith samples s opening) l answers₀ answers packets places st d e);
+        account = λ e. runs-account s opening samples _ _ st (subst T (sym f) tt) size (carries-runs outcome (openedWith samples s opening) l answers₀ answers packets places st d e);
       }

@@ -18,13 +18,13 @@ use Rattle.turns.specs.Turns.{Turns, TurnsAt}
 use Rattle.replay.specs.Runs.{host, Left, all, packetsIn, bufferIn, RunsAll}
 use Rattle.encoding.specs.declared.words.Words.{Words}
 use Rattle.encoding.specs.declared.words.Amounts.{Amounts}
-use Rattle.encoding.specs.declared.check.Told.the-variants.{Ran}
+use Rattle.encoding.specs.declared.check.Outcome.the-variants.{Ran}
 use Rattle.encoding.proofs.Fitting.{within-says}
 use Rattle.encoding.proofs.Checks.{fine}
 use Rattle.replay.proofs.Fronts.{Laid, laid-none, part-is, laid-more, laid-as, laid-all, all-more, as-lent}
 
 left-is : (a a′ p p′ : List ℕ) (q q′ : List Float) (s s′ : State) → a ≡ a′ → p ≡ p′ → q ≡ q′ → s ≡ s′
-    → _≡_ {A = Left} (record { told = Ran; answers = a; packets = p; places = q; state = s }) (record { told = Ran; answers = a′; packets = p′; places = q′; state = s′ })
+    → _≡_ {A = Left} (record { outcome = Ran; answers = a; packets = p; places = q; state = s }) (record { outcome = Ran; answers = a′; packets = p′; places = q′; state = s′ })
 left-is a a′ p p′ q q′ s s′ ea ep eq es = cc
 
 module _ (st₀ : State) (l : Lent) (answers₀ : List ℕ) (n : ℕ) where
@@ -33,7 +33,7 @@ module _ (st₀ : State) (l : Lent) (answers₀ : List ℕ) (n : ℕ) where
   leftOf cs =
       let rs = trace host st₀ cs in
       record {
-        told = Ran;
+        outcome = Ran;
         answers = all numbersIn rs;
         packets = written (l .packets) 0 (all packetsIn rs);
         places = written (l .places) 0 (all bufferIn rs);
@@ -47,7 +47,7 @@ module _ (st₀ : State) (l : Lent) (answers₀ : List ℕ) (n : ℕ) where
   -- after i of n calls
   pub record Done (i : ℕ) (taken : Amounts) (st : State) (answers packets : List ℕ) (places : List Float) : Type 0 where
     pub done : List Reply
-    pub told : trace host st₀ (callsFrom l n 0 nothing) ≡ done ++ trace host st (callsFrom l (n - i) i taken)
+    pub outcome : trace host st₀ (callsFrom l n 0 nothing) ≡ done ++ trace host st (callsFrom l (n - i) i taken)
     pub left : final host st₀ (callsFrom l n 0 nothing) ≡ final host st (callsFrom l (n - i) i taken)
     pub answered : Laid (all numbersIn done) (8 * i) answers₀ answers
     pub wrote : Laid (all packetsIn done) (taken .packets) (l .packets) packets
@@ -64,7 +64,7 @@ module _ (st₀ : State) (l : Lent) (answers₀ : List ℕ) (n : ℕ) where
       subst (λ (t : Amounts). Done 0 t st₀ answers₀ (l .packets) (l .places)) (sym e)
       (record {
         done = [];
-        told = ap (λ (k : ℕ). trace host st₀ (callsFrom l k 0 nothing)) (sym z);
+        outcome = ap (λ (k : ℕ). trace host st₀ (callsFrom l k 0 nothing)) (sym z);
         left = ap (λ (k : ℕ). final host st₀ (callsFrom l k 0 nothing)) (sym z);
         answered = laid-none answers₀;
         wrote = laid-none (l .packets);
@@ -120,8 +120,8 @@ module _ (st₀ : State) (l : Lent) (answers₀ : List ℕ) (n : ℕ) where
           let rest = callsFrom l (n - (i + 1)) (i + 1) next in
           record {
             done = d .done ++ (x .reply ∷ []);
-            told =
-                d .told
+            outcome =
+                d .outcome
                 ∙ ap (λ (cs : List Call). d .done ++ trace host st cs) calls-next
                 ∙ ap (λ (s : State). d .done ++ (x .reply ∷ trace host s rest)) (sym es)
                 ∙ sym (append-assoc (d .done) (x .reply ∷ []) (trace host st′ rest));
@@ -158,7 +158,7 @@ module _ (st₀ : State) (l : Lent) (answers₀ : List ℕ) (n : ℕ) where
   ran i taken st answers packets places z e h d =
       let ends : callsFrom l (n - i) i taken ≡ [] = no-more i taken z in
       let rs : trace host st₀ (callsFrom l n 0 nothing) ≡ d .done =
-      d .told ∙ ap (λ (cs : List Call). d .done ++ trace host st cs) ends ∙ append-nil (d .done) in
+      d .outcome ∙ ap (λ (cs : List Call). d .done ++ trace host st cs) ends ∙ append-nil (d .done) in
       let t : final host st₀ (callsFrom l n 0 nothing) ≡ st = d .left ∙ ap (final host st) ends in
       record {
         leaves =

@@ -7,5 +7,5 @@ use Rattle.replay.specs.Runs.{host}
 
 -- from st these calls get these replies, and leave st′
 pub record Runs (st : State) (calls : List Call) (replies : List Reply) (st′ : State) : Type 0 where
-  pub told : replies ≡ trace host st calls
+  pub outcome : replies ≡ trace host st calls
   pub left : st′ ≡ final host st calls

@@ -20,8 +20,8 @@ use Rattle.encoding.specs.Code.{answerIn, streamsIn}
 use Rattle.encoding.specs.Lists.{Lent, part, takenWith, decoded}
 use Rattle.replay.specs.Runs.{Left, untouched, carried}
 use Rattle.encoding.specs.declared.words.Amounts.{Amounts}
-use Rattle.encoding.specs.declared.check.Told.{Told}
-use Rattle.encoding.specs.declared.check.Told.the-variants.{Ran, NotOpened}
+use Rattle.encoding.specs.declared.check.Outcome.{Outcome}
+use Rattle.encoding.specs.declared.check.Outcome.the-variants.{Ran, NotOpened}
 
 -- ---- what it wrote, read back
 
@@ -56,10 +56,10 @@ unfoldable pub replayed : Settings → ℕ → List Float → Lent → List ℕ 
 replayed s opening samples l answers =
     pick (accepts s) (carried (openedWith samples s opening) l answers) (untouched NotOpened (joined unopened samples) l answers)
 
-pub record Replays (s : Settings) (opening : ℕ) (answer : SettingsAnswer) (told : Told) (samples : List Float) (l : Lent) (answers₀ answers packets : List ℕ)
+pub record Replays (s : Settings) (opening : ℕ) (answer : SettingsAnswer) (outcome : Outcome) (samples : List Float) (l : Lent) (answers₀ answers packets : List ℕ)
     (places : List Float) (st : State) : Type 0 where
   pub opens : settingsAnswer answer ≡ settingsTold s
-  pub leaves : record { told = told; answers = answers; packets = packets; places = places; state = st } ≡ replayed s opening samples l answers₀
+  pub leaves : record { outcome = outcome; answers = answers; packets = packets; places = places; state = st } ≡ replayed s opening samples l answers₀
   -- demand 3, for every numbering of the calls
-  pub account : told ≡ Ran → (numbers : List ℕ)
+  pub account : outcome ≡ Ran → (numbers : List ℕ)
       → Account s opening (numbered (decoded l) numbers) (repliesIn (l .calls) answers packets places) (waitingIn (st .session .receiver) (st .samples))

@@ -10,9 +10,9 @@ use Rattle.model.specs.Host.{Reply, Host, trace, final}
 use Rattle.model.specs.State.{State}
 use Rattle.model.specs.Session.{session}
 use Rattle.encoding.specs.Code.{numbersIn}
-use Rattle.encoding.specs.Lists.{Lent, decoded, toldOf, isRan}
-use Rattle.encoding.specs.declared.check.Told.{Told}
-use Rattle.encoding.specs.declared.check.Told.the-variants.{Ran}
+use Rattle.encoding.specs.Lists.{Lent, decoded, outcomeOf, isRan}
+use Rattle.encoding.specs.declared.check.Outcome.{Outcome}
+use Rattle.encoding.specs.declared.check.Outcome.the-variants.{Ran}
 
 -- the session as a host; what is lent beside it at first makes no difference to its calls
 abbrev pub host : Host
@@ -30,7 +30,7 @@ abbrev pub bufferIn : Reply → List Float
 bufferIn r = r .buffer
 
 pub record Left : Type 0 where
-  pub told : Told
+  pub outcome : Outcome
   pub answers : List ℕ
   pub packets : List ℕ
   pub places : List Float
@@ -41,26 +41,26 @@ abbrev pub allRun : State → Lent → Left
 allRun st l =
     let rs = trace host st (decoded l) in
     record {
-      told = Ran;
+      outcome = Ran;
       answers = all numbersIn rs;
       packets = written (l .packets) 0 (all packetsIn rs);
       places = written (l .places) 0 (all bufferIn rs);
       state = final host st (decoded l);
     }
 
-abbrev pub untouched : Told → State → Lent → List ℕ → Left
-untouched told st l answers = record { told = told; answers = answers; packets = l .packets; places = l .places; state = st }
+abbrev pub untouched : Outcome → State → Lent → List ℕ → Left
+untouched outcome st l answers = record { outcome = outcome; answers = answers; packets = l .packets; places = l .places; state = st }
 
 -- from any state
 unfoldable pub carried : State → Lent → List ℕ → Left
 carried st l answers =
-    let told = toldOf l (length answers) in
-    pick (isRan told) (allRun st l) (untouched told st l answers)
+    let outcome = outcomeOf l (length answers) in
+    pick (isRan outcome) (allRun st l) (untouched outcome st l answers)
 
 -- what the code left
-pub record Carries (told : Told) (st : State) (l : Lent) (answers₀ answers packets : List ℕ) (places : List Float) (st′ : State) : Type 0 where
-  pub leaves : record { told = told; answers = answers; packets = packets; places = places; state = st′ } ≡ carried st l answers₀
+pub record Carries (outcome : Outcome) (st : State) (l : Lent) (answers₀ answers packets : List ℕ) (places : List Float) (st′ : State) : Type 0 where
+  pub leaves : record { outcome = outcome; answers = answers; packets = packets; places = places; state = st′ } ≡ carried st l answers₀
 
 -- and of a list that was run
 pub record RunsAll (st : State) (l : Lent) (answers packets : List ℕ) (places : List Float) (st′ : State) : Type 0 where
-  pub leaves : record { told = Ran; answers = answers; packets = packets; places = places; state = st′ } ≡ allRun st l
+  pub leaves : record { outcome = Ran; answers = answers; packets = packets; places = places; state = st′ } ≡ allRun st l

@@ -3,11 +3,11 @@ ghost use mathlib.Core.Path.{_≡_};
 ghost use lib.ListN.{length};
 ghost use Rattle.model.specs.Settings.{settingsAnswer, isGiven};
 ghost use Rattle.model.specs.Gives.{joined};
-ghost use Rattle.encoding.specs.Lists.{lentBy, toldOf};
+ghost use Rattle.encoding.specs.Lists.{lentBy, outcomeOf};
 ghost use Rattle.replay.specs.Runs.{RunsAll, Carries};
 ghost use Rattle.replay.specs.Replay.{Replays};
-ghost use Rattle.encoding.specs.declared.check.Told.the-variants.{Ran};
-use encoding::check::Told;
+ghost use Rattle.encoding.specs.declared.check.Outcome.the-variants.{Ran};
+use encoding::check::Outcome;
 use encoding::check::check;
 use encoding::check::is_ran;
 use encoding::words::Amounts;
@@ -25,7 +25,7 @@ use turns::turn::turn_at;
 
 // What became of a list, and the session after it.
 pub struct Carried {
-    pub told: Told,
+    pub outcome: Outcome,
     pub session: Session,
 }
 
@@ -40,7 +40,7 @@ fn run(
     places: &mut [f32],
     answers: &mut [u64],
 ) -> Session
-    requires { ⌜ toldOf (lentBy (now calls) (now octets) (now numbers) (now packets) (now places)) (length (now answers)) ≡ Ran ⌝ }
+    requires { ⌜ outcomeOf (lentBy (now calls) (now octets) (now numbers) (now packets) (now places)) (length (now answers)) ≡ Ran ⌝ }
     ensures { λ r. ⌜ RunsAll (joined first (now (samples .entry))) (lentBy (now (calls .entry)) (now (octets .entry)) (now (numbers .entry)) (now (packets .entry)) (now (places .entry))) (now (answers .exit)) (now (packets .exit)) (now (places .exit)) (joined r (now (samples .exit))) ⌝ }
 {
     let room = Amounts {
@@ -101,7 +101,7 @@ pub fn carry_on(
     places: &mut [f32],
     answers: &mut [u64],
 ) -> Carried
-    ensures { λ r. ⌜ Carries (r .told) (joined s (now (samples .entry))) (lentBy (now (calls .entry)) (now (octets .entry)) (now (numbers .entry)) (now (packets .entry)) (now (places .entry))) (now (answers .entry)) (now (answers .exit)) (now (packets .exit)) (now (places .exit)) (joined (r .session) (now (samples .exit))) ⌝ }
+    ensures { λ r. ⌜ Carries (r .outcome) (joined s (now (samples .entry))) (lentBy (now (calls .entry)) (now (octets .entry)) (now (numbers .entry)) (now (packets .entry)) (now (places .entry))) (now (answers .entry)) (now (answers .exit)) (now (packets .exit)) (now (places .exit)) (joined (r .session) (now (samples .exit))) ⌝ }
 {
     let room = Amounts {
         octets: octets.len(),
@@ -109,12 +109,15 @@ pub fn carry_on(
         packets: packets.len(),
         places: places.len(),
     };
-    let told = check(calls, room, answers.len());
-    if !is_ran(told) {
-        return Carried { told, session: s };
+    let outcome = check(calls, room, answers.len());
+    if !is_ran(outcome) {
+        return Carried {
+            outcome,
+            session: s,
+        };
     }
     let session = run(s, samples, calls, octets, numbers, packets, places, answers);
-    Carried { told, session }
+    Carried { outcome, session }
 }
 
 // How many samples are lent. Their type says it; demand 3 needs it said of the list.
@@ -127,7 +130,7 @@ fn lent_samples(samples: &[f32]) -> usize
 // What Open answered, what became of the list, and the session after it.
 pub struct Replayed {
     pub answer: SettingsAnswer,
-    pub told: Told,
+    pub outcome: Outcome,
     pub session: Session,
 }
 
@@ -143,7 +146,7 @@ pub fn replay(
     places: &mut [f32],
     answers: &mut [u64],
 ) -> Replayed
-    ensures { λ r. ⌜ Replays settings opening (r .answer) (r .told) (now (samples .entry)) (lentBy (now (calls .entry)) (now (octets .entry)) (now (numbers .entry)) (now (packets .entry)) (now (places .entry))) (now (answers .entry)) (now (answers .exit)) (now (packets .exit)) (now (places .exit)) (joined (r .session) (now (samples .exit))) ⌝ }
+    ensures { λ r. ⌜ Replays settings opening (r .answer) (r .outcome) (now (samples .entry)) (lentBy (now (calls .entry)) (now (octets .entry)) (now (numbers .entry)) (now (packets .entry)) (now (places .entry))) (now (answers .entry)) (now (answers .exit)) (now (packets .exit)) (now (places .exit)) (joined (r .session) (now (samples .exit))) ⌝ }
 {
     let opened = open(settings, opening);
     let answer = opened.answer;
@@ -151,17 +154,17 @@ pub fn replay(
     if !is_accepted(answer) {
         return Replayed {
             answer,
-            told: Told::NotOpened,
+            outcome: Outcome::NotOpened,
             session: s,
         };
     }
     lent_samples(&samples[..]);
     let r = carry_on(s, samples, calls, octets, numbers, packets, places, answers);
-    let told = r.told;
+    let outcome = r.outcome;
     let session = r.session;
     Replayed {
         answer,
-        told,
+        outcome,
         session,
     }
 }

@@ -8,7 +8,7 @@ use lib.Dec.{eqb}
 use borrow.Author.Tests.{leb-false, lt-ltb, le-ltb, le-leb, lt-leb, eq-eqb, ne-eqb}
 use Rattle.base.specs.Pick.{pick}
 use Rattle.base.proofs.Picks.{pick-t, pick-f}
-use Rattle.sequence.specs.Tracker.{less, ahead, behind, zeroRestarts, eighth, meant, judged, rebaselined, moved, observed}
+use Rattle.sequence.specs.Tracker.{less, ahead, behind, zeroRestarts, eighth, meant, meaning, rebaselined, moved, observed}
 use Rattle.sequence.specs.declared.Observed.{Observed}
 use Rattle.sequence.specs.declared.SeqEvent.{SeqEvent}
 use Rattle.sequence.specs.declared.SeqEvent.the-variants.{InOrder, Gap, Stale, Restart}
@@ -67,14 +67,14 @@ stale-run-small : (d run seq : ℕ) → meant d run seq ≡ Stale → run < 7
 unfolding meant
 stale-run-small d run seq h = omega (arith, leb-false 8 (run + 1) (by-tests (eqb d 0) (zeroRestarts seq) (ahead d) (behind d) (eighth run) d h))
 
-stale-small : (x : Expected) (run seq : ℕ) → judged x run seq ≡ Stale → run < 7
+stale-small : (x : Expected) (run seq : ℕ) → meaning x run seq ≡ Stale → run < 7
 stale-small Nothing run seq h = let z : _≡_ {A = ℕ} 0 1 = cc in absurd (omega arith)
 stale-small (Next x) run seq h = stale-run-small (less seq x) run seq h
 
 -- ---- the tracker after each event
 
 module _ (t : SeqTracker) (seq : ℕ) where
-  seen : (e : SeqEvent) → e ≡ judged (t .expected) (t .«stale_run») seq → moved t seq e ≡ observed t seq
+  seen : (e : SeqEvent) → e ≡ meaning (t .expected) (t .«stale_run») seq → moved t seq e ≡ observed t seq
   unfolding observed
   seen e h = ap (moved t seq) h
 
@@ -85,11 +85,11 @@ module _ (t : SeqTracker) (seq : ℕ) where
   accepted Stale n = absurd (n refl)
 
   pub seen-first : (r : Observed) → t .expected ≡ Nothing → r ≡ rebaselined seq InOrder → r ≡ observed t seq
-  seen-first r h b = b ∙ seen InOrder (sym (ap (λ (x : Expected). judged x (t .«stale_run») seq) h))
+  seen-first r h b = b ∙ seen InOrder (sym (ap (λ (x : Expected). meaning x (t .«stale_run») seq) h))
 
-  module _ (x : ℕ) (e : SeqEvent) (h : t .expected ≡ Next x) (k : e ≡ judged (Next x) (t .«stale_run») seq) where
-    next : e ≡ judged (t .expected) (t .«stale_run») seq
-    next = k ∙ sym (ap (λ (x : Expected). judged x (t .«stale_run») seq) h)
+  module _ (x : ℕ) (e : SeqEvent) (h : t .expected ≡ Next x) (k : e ≡ meaning (Next x) (t .«stale_run») seq) where
+    next : e ≡ meaning (t .expected) (t .«stale_run») seq
+    next = k ∙ sym (ap (λ (x : Expected). meaning x (t .«stale_run») seq) h)
 
     pub seen-accepted : (r : Observed) → (e ≡ Stale → ⊥) → r ≡ rebaselined seq e → r ≡ observed t seq
     seen-accepted r n b = b ∙ accepted e n ∙ seen e next
@@ -107,7 +107,7 @@ module _ (t : SeqTracker) (seq : ℕ) where
 
 pub run-at-most : (t : SeqTracker) (seq : ℕ) → observed t seq .tracker .«stale_run» ≤ 7
 unfolding observed
-run-at-most t seq = go (judged (t .expected) (t .«stale_run») seq) (stale-small (t .expected) (t .«stale_run») seq)
+run-at-most t seq = go (meaning (t .expected) (t .«stale_run») seq) (stale-small (t .expected) (t .«stale_run») seq)
   where
     go : (e : SeqEvent) → (e ≡ Stale → t .«stale_run» < 7) → moved t seq e .tracker .«stale_run» ≤ 7
     go InOrder h = omega arith

@@ -44,9 +44,9 @@ meant d run seq =
     Restart)))
 
 -- while none is expected every number is InOrder
-abbrev pub judged : Expected → ℕ → ℕ → SeqEvent
-judged Nothing run seq = InOrder
-judged (Next expected) run seq = meant (less seq expected) run seq
+abbrev pub meaning : Expected → ℕ → ℕ → SeqEvent
+meaning Nothing run seq = InOrder
+meaning (Next expected) run seq = meant (less seq expected) run seq
 
 -- the tracker as an accepted number leaves it
 abbrev pub past : ℕ → SeqTracker
@@ -66,7 +66,7 @@ moved t seq Restart = rebaselined seq Restart
 moved t seq Stale = kept t
 
 unfoldable pub observed : SeqTracker → ℕ → Observed
-observed t seq = moved t seq (judged (t .expected) (t .«stale_run») seq)
+observed t seq = moved t seq (meaning (t .expected) (t .«stale_run») seq)
 
 -- no number is expected before the first
 abbrev pub new : SeqTracker

@@ -1,6 +1,6 @@
 // The tracker of datagram numbers: what a number means relative to the stream so far. 01, Numbers in the stream.
 ghost use mathlib.Core.Path.{_≡_};
-ghost use Rattle.sequence.specs.Tracker.{new, zeroRestarts, judged, rebaselined, observed};
+ghost use Rattle.sequence.specs.Tracker.{new, zeroRestarts, meaning, rebaselined, observed};
 
 // A stale (late or repeated) datagram is at most this many behind the expected one.
 const MAX_STALE_BEHIND: u32 = 64;
@@ -41,7 +41,7 @@ fn zero_restarts(seq: u32) -> bool
 
 // What seq is where `expected` is expected and run stale ones have come since the last accepted one.
 fn judge(expected: u32, run: u32, seq: u32) -> SeqEvent
-    ensures { λ r. ⌜ r ≡ judged (Expected.Next expected) run seq ⌝ }
+    ensures { λ r. ⌜ r ≡ meaning (Expected.Next expected) run seq ⌝ }
 {
     let d = std::num::wrapping_sub_u32(seq, expected);
     if d == 0 {

@@ -17,7 +17,7 @@ use sending::send::start;
 // Two high priority packets.
 const CLOSE_LEN: usize = 2888;
 
-fn told(answer: CloseAnswer, session: Session) -> Ended
+fn without_packets(answer: CloseAnswer, session: Session) -> Ended
     ensures { λ r. ⌜ r ≡ record { answer = answer; streams = streamsAs []; session = session } ⌝ }
 {
     Ended {
@@ -50,10 +50,10 @@ pub fn close(s: Session, packets: &mut [u8]) -> Ended
     ensures { λ r. ⌜ Gives (closeAnswer (r .answer)) (r .streams) (now (packets .exit)) (r .session) (Close.close s (now (packets .entry))) ⌝ }
 {
     if s.common.closed {
-        return told(CloseAnswer::NotNow, s);
+        return without_packets(CloseAnswer::NotNow, s);
     }
     if packets.len() < CLOSE_LEN {
-        return told(CloseAnswer::NoRoom, s);
+        return without_packets(CloseAnswer::NoRoom, s);
     }
     stop(s, packets)
 }

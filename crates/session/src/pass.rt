@@ -28,7 +28,7 @@ use sending::send::start;
 const PASS_LEN: usize = 4452;
 
 // An answer that wrote no packet.
-fn told(answer: PassAnswer, session: Session) -> Passed
+fn without_packets(answer: PassAnswer, session: Session) -> Passed
     ensures { λ r. ⌜ r ≡ record { answer = answer; streams = streamsAs []; session = session } ⌝ }
 {
     Passed {
@@ -44,7 +44,7 @@ fn read_closed(answer: PassAnswer, s: Session, receiver: Receiver) -> Passed
 {
     let mut next = s;
     next.receiver = receiver;
-    told(answer, next)
+    without_packets(answer, next)
 }
 
 // What is due is written.
@@ -72,7 +72,7 @@ fn passed(s: Session, reading: u64, packets: &mut [u8]) -> Passed
 {
     let receiver = s.receiver;
     if waits(receiver) {
-        return told(PassAnswer::Ready, s);
+        return without_packets(PassAnswer::Ready, s);
     }
     let settings = s.common.settings;
     let quiet = quiet_at(receiver, reading, settings.soft_after, settings.stall_after);
@@ -88,13 +88,13 @@ pub fn pass(s: Session, reading: u64, packets: &mut [u8]) -> Passed
 {
     let receiver = s.receiver;
     if not_reading(s.common.closed, receiver) {
-        return told(PassAnswer::NotNow, s);
+        return without_packets(PassAnswer::NotNow, s);
     }
     if reading < s.common.last_reading {
-        return told(PassAnswer::ReadingFell, s);
+        return without_packets(PassAnswer::ReadingFell, s);
     }
     if packets.len() < PASS_LEN {
-        return told(PassAnswer::NoRoom, s);
+        return without_packets(PassAnswer::NoRoom, s);
     }
     let mut next = s;
     next.common.last_reading = reading;

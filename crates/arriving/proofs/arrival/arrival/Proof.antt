@@ -13,54 +13,54 @@ use Rattle.arriving.proofs.arrival.arrival.Tie as tie
 not-reading-requires : tie.Need-not-reading-requires
 not-reading-requires c κs = search needs
 
-told-requires : tie.Need-told-requires
-told-requires c κs = search needs
+without-packets-requires : tie.Need-without-packets-requires
+without-packets-requires c κs = search needs
 
 returns : tie.Need-returns
-returns c = let a = c .before .before .before .before .before .before .before .args in arrival-told (a .s) (a .packets .now) (a .samples .now) _ NotNow _ (c .told .ensures) (row-10 (joined (a .s) (a .samples .now)) (incoming (a .reading) (a .later) (a .from) (a .datagram .now) (a .waiting .now)) (a .packets .now) (was (c .before .before .not-reading .ensures) (c .before .if1 .taken)))
+returns c = let a = c .before .before .before .before .before .before .before .args in arrival-told (a .s) (a .packets .now) (a .samples .now) _ NotNow _ (c .without-packets .ensures) (row-10 (joined (a .s) (a .samples .now)) (incoming (a .reading) (a .later) (a .from) (a .datagram .now) (a .waiting .now)) (a .packets .now) (was (c .before .before .not-reading .ensures) (c .before .if1 .taken)))
 
-told-requires-2 : tie.Need-told-requires-2
-told-requires-2 c κs = search needs
+without-packets-requires-2 : tie.Need-without-packets-requires-2
+without-packets-requires-2 c κs = search needs
 
 returns-2 : tie.Need-returns-2
-returns-2 c = let a = c .before .before .before .before .before .before .before .before .before .args in arrival-told (a .s) (a .packets .now) (a .samples .now) _ ReadingFell _ (c .told2 .ensures) (row-11 (joined (a .s) (a .samples .now)) (incoming (a .reading) (a .later) (a .from) (a .datagram .now) (a .waiting .now)) (a .packets .now) (was (c .before .before .before .before .not-reading .ensures) (c .before .before .before .if1 .left)) (lt-ltb _ _ (c .before .if2 .taken)))
+returns-2 c = let a = c .before .before .before .before .before .before .before .before .before .args in arrival-told (a .s) (a .packets .now) (a .samples .now) _ ReadingFell _ (c .without-packets2 .ensures) (row-11 (joined (a .s) (a .samples .now)) (incoming (a .reading) (a .later) (a .from) (a .datagram .now) (a .waiting .now)) (a .packets .now) (was (c .before .before .before .before .not-reading .ensures) (c .before .before .before .if1 .left)) (lt-ltb _ _ (c .before .if2 .taken)))
 
 waits-requires : tie.Need-waits-requires
 waits-requires c κs = search needs
 
-told-requires-3 : tie.Need-told-requires-3
-told-requires-3 c κs = search needs
+without-packets-requires-3 : tie.Need-without-packets-requires-3
+without-packets-requires-3 c κs = search needs
 
 returns-3 : tie.Need-returns-3
 returns-3 c = let a = c .before .before .before .before .before .before .before .before .before .before .before .args in
-    arrival-told (a .s) (a .packets .now) (a .samples .now) _ SamplesWait _ (c .told3 .ensures)
+    arrival-told (a .s) (a .packets .now) (a .samples .now) _ SamplesWait _ (c .without-packets3 .ensures)
     (row-12 (joined (a .s) (a .samples .now)) (incoming (a .reading) (a .later) (a .from) (a .datagram .now) (a .waiting .now)) (a .packets .now)
     (was (c .before .before .before .before .before .before .not-reading .ensures) (c .before .before .before .before .before .if1 .left)) (le-ltb _ _ (c .before .before .before .if2 .left)) (was (c .before .before .waits .ensures) (c .before .if3 .taken)))
 
-told-requires-4 : tie.Need-told-requires-4
-told-requires-4 c κs = search needs
+without-packets-requires-4 : tie.Need-without-packets-requires-4
+without-packets-requires-4 c κs = search needs
 
 returns-4 : tie.Need-returns-4
 returns-4 c = let a = c .before .before .before .before .before .before .before .before .before .before .before .before .args in
-    arrival-told (a .s) (a .packets .now) (a .samples .now) _ LaterFell _ (c .told4 .ensures)
+    arrival-told (a .s) (a .packets .now) (a .samples .now) _ LaterFell _ (c .without-packets4 .ensures)
     (row-13 (joined (a .s) (a .samples .now)) (incoming (a .reading) (a .later) (a .from) (a .datagram .now) (a .waiting .now)) (a .packets .now)
     (was (c .before .before .before .before .before .before .before .not-reading .ensures) (c .before .before .before .before .before .before .if1 .left)) (le-ltb _ _ (c .before .before .before .before .if2 .left)) (was (c .before .before .before .waits .ensures) (c .before .before .if3 .left)) (c .before .if4 .taken))
 
-told-requires-5 : tie.Need-told-requires-5
-told-requires-5 c κs = search needs
+without-packets-requires-5 : tie.Need-without-packets-requires-5
+without-packets-requires-5 c κs = search needs
 
 returns-5 : tie.Need-returns-5
 returns-5 c = let a = c .before .before .before .before .before .before .before .before .before .before .before .before .before .args in
-    arrival-told (a .s) (a .packets .now) (a .samples .now) _ TooManyWaiting _ (c .told5 .ensures)
+    arrival-told (a .s) (a .packets .now) (a .samples .now) _ TooManyWaiting _ (c .without-packets5 .ensures)
     (row-14 (joined (a .s) (a .samples .now)) (incoming (a .reading) (a .later) (a .from) (a .datagram .now) (a .waiting .now)) (a .packets .now)
     (was (c .before .before .before .before .before .before .before .before .not-reading .ensures) (c .before .before .before .before .before .before .before .if1 .left)) (le-ltb _ _ (c .before .before .before .before .before .if2 .left)) (was (c .before .before .before .before .waits .ensures) (c .before .before .before .if3 .left)) (c .before .before .if4 .left) (c .before .if5 .taken))
 
-told-requires-6 : tie.Need-told-requires-6
-told-requires-6 c κs = search needs
+without-packets-requires-6 : tie.Need-without-packets-requires-6
+without-packets-requires-6 c κs = search needs
 
 returns-6 : tie.Need-returns-6
 returns-6 c = let a = c .before .before .before .before .before .before .before .before .before .before .before .before .before .before .args in
-    arrival-told (a .s) (a .packets .now) (a .samples .now) _ NoRoom _ (c .told6 .ensures)
+    arrival-told (a .s) (a .packets .now) (a .samples .now) _ NoRoom _ (c .without-packets6 .ensures)
     (row-15 (joined (a .s) (a .samples .now)) (incoming (a .reading) (a .later) (a .from) (a .datagram .now) (a .waiting .now)) (a .packets .now)
     (was (c .before .before .before .before .before .before .before .before .before .not-reading .ensures) (c .before .before .before .before .before .before .before .before .if1 .left)) (le-ltb _ _ (c .before .before .before .before .before .before .if2 .left)) (was (c .before .before .before .before .before .waits .ensures) (c .before .before .before .before .if3 .left)) (c .before .before .before .if4 .left) (c .before .before .if5 .left) (omega (arith, c .before .if6 .taken)))
 
@@ -82,18 +82,18 @@ arrival-spec =
     tie.close
     (tie.spec
     not-reading-requires
-    told-requires
+    without-packets-requires
     returns
-    told-requires-2
+    without-packets-requires-2
     returns-2
     waits-requires
-    told-requires-3
+    without-packets-requires-3
     returns-3
-    told-requires-4
+    without-packets-requires-4
     returns-4
-    told-requires-5
+    without-packets-requires-5
     returns-5
-    told-requires-6
+    without-packets-requires-6
     returns-6
     arrived-requires
     same-length

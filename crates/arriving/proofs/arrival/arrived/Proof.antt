@@ -34,8 +34,8 @@ handle-status-requires c κs = search needs
 enum-told-2 : tie.Need-enum-told-2
 enum-told-2 c = search needs
 
-told-requires : tie.Need-told-requires
-told-requires c κs = search needs
+without-packets-requires : tie.Need-without-packets-requires
+without-packets-requires c κs = search needs
 
 enum-told-3 : tie.Need-enum-told-3
 enum-told-3 c = search needs
@@ -63,7 +63,7 @@ returns-2 c = let a = c .before .before .before .before .before .before .before 
 returns-3 : tie.Need-returns-3
 unfolding Arrival.arrived
 returns-3 c = let a = c .before .before .before .before .before .before .before .before .args in
-    arrival-told (a .s) (a .packets .now) (a .samples .now) _ answer.Ignored _ (c .told .ensures)
+    arrival-told (a .s) (a .packets .now) (a .samples .now) _ answer.Ignored _ (c .without-packets .ensures)
     (by-route (joined (a .s) (a .samples .now)) (a .reading) (a .later) (a .from) (a .datagram .now) (a .waiting .now) (a .packets .now) _ (c .before .before .before .routed .ensures)
     Ignored (c .before .enum-told2 .given .1))
 
@@ -86,7 +86,7 @@ arrived-spec =
     enum-told
     handle-status-requires
     enum-told-2
-    told-requires
+    without-packets-requires
     enum-told-3
     malformed-requires
     returns

@@ -12,15 +12,15 @@ use Rattle.arriving.proofs.heard.heard_iq.Tie as tie
 note-heard-requires : tie.Need-note-heard-requires
 note-heard-requires c κs = search needs
 
-told-requires : tie.Need-told-requires
-told-requires c κs = search needs
+without-packets-requires : tie.Need-without-packets-requires
+without-packets-requires c κs = search needs
 
 returns : tie.Need-returns
 returns c = let h = c .before .before .before .before .before .args .h in
-    c .told .ensures
+    c .without-packets .ensures
     ∙ ap
     (λ (x : Common). record { answer = Iq (h .event) (h .missing); streams = streamsAs []; session = record { common = x; receiver = h .receiver } })
     (c .before .note-heard .ensures)
 
 pub heard-iq-spec : {M : Type 1} → statement M
-heard-iq-spec = tie.close (tie.spec note-heard-requires told-requires returns)
+heard-iq-spec = tie.close (tie.spec note-heard-requires without-packets-requires returns)

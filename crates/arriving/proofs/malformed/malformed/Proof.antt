@@ -14,17 +14,17 @@ note-malformed-requires c κs = search needs
 shut-requires : tie.Need-shut-requires
 shut-requires c κs = search needs
 
-told-requires : tie.Need-told-requires
-told-requires c κs = search needs
+without-packets-requires : tie.Need-without-packets-requires
+without-packets-requires c κs = search needs
 
 returns : tie.Need-returns
-returns c = λ (d : List ℕ). arrived-told _ d _ MalformedLimit _ (c .told .ensures) (malformed-limit (c .before .before .before .before .before .before .before .before .args .s) d _ (c .before .before .before .before .before .before .note-malformed .ensures) _ (c .before .before .before .if1 .taken) (c .before .shut .ensures))
+returns c = λ (d : List ℕ). arrived-told _ d _ MalformedLimit _ (c .without-packets .ensures) (malformed-limit (c .before .before .before .before .before .before .before .before .args .s) d _ (c .before .before .before .before .before .before .note-malformed .ensures) _ (c .before .before .before .if1 .taken) (c .before .shut .ensures))
 
-told-requires-2 : tie.Need-told-requires-2
-told-requires-2 c κs = search needs
+without-packets-requires-2 : tie.Need-without-packets-requires-2
+without-packets-requires-2 c κs = search needs
 
 returns-2 : tie.Need-returns-2
-returns-2 c = λ (d : List ℕ). arrived-told _ d _ Malformed _ (c .told2 .ensures) (malformed-on (c .before .before .before .before .before .before .args .s) d _ (c .before .before .before .before .note-malformed .ensures) (c .before .if1 .left))
+returns-2 c = λ (d : List ℕ). arrived-told _ d _ Malformed _ (c .without-packets2 .ensures) (malformed-on (c .before .before .before .before .before .before .args .s) d _ (c .before .before .before .before .note-malformed .ensures) (c .before .if1 .left))
 
 pub malformed-spec : {M : Type 1} → statement M
 malformed-spec =
@@ -32,7 +32,7 @@ malformed-spec =
     (tie.spec
     note-malformed-requires
     shut-requires
-    told-requires
+    without-packets-requires
     returns
-    told-requires-2
+    without-packets-requires-2
     returns-2)

@@ -23,15 +23,15 @@ enum-known-attenuation c = search needs
 enum-told : tie.Need-enum-told
 enum-told c = search needs
 
-told-requires : tie.Need-told-requires
-told-requires c κs = search needs
+without-packets-requires : tie.Need-without-packets-requires
+without-packets-requires c κs = search needs
 
 returns : tie.Need-returns
 returns c = let a = c .before .before .before .before .before .before .args in
     record {
       hears =
           λ (from : Sender) (waiting : List ℕ).
-          arrived-told (a .s) (a .packets .now) _ Ignored _ (c .told .ensures)
+          arrived-told (a .s) (a .packets .now) _ Ignored _ (c .without-packets .ensures)
           (status-off (a .s) (incoming (a .reading) (a .later) from (a .datagram .now) waiting) (a .packets .now) (c .before .enum-told .given .1));
     }
 
@@ -44,15 +44,15 @@ enum-known-overload c = search needs
 enum-told-2 : tie.Need-enum-told-2
 enum-told-2 c = search needs
 
-told-requires-2 : tie.Need-told-requires-2
-told-requires-2 c κs = search needs
+without-packets-requires-2 : tie.Need-without-packets-requires-2
+without-packets-requires-2 c κs = search needs
 
 returns-2 : tie.Need-returns-2
 returns-2 c = let a = c .before .before .before .before .before .before .before .before .before .before .args in
     record {
       hears =
           λ (from : Sender) (waiting : List ℕ).
-          arrived-told (a .s) (a .packets .now) _ Ignored _ (c .told2 .ensures)
+          arrived-told (a .s) (a .packets .now) _ Ignored _ (c .without-packets2 .ensures)
           (status-unread (a .s) (incoming (a .reading) (a .later) from (a .datagram .now) waiting) (a .packets .now) _ (c .before .before .before .before .before .attenuation .given .1) _
           (c .before .before .before .adc-overload-bits .ensures) (c .before .enum-told2 .given .1));
     }
@@ -91,12 +91,12 @@ handle-status-spec =
     (tie.spec
     enum-known-attenuation
     enum-told
-    told-requires
+    without-packets-requires
     returns
     adc-overload-bits-requires
     enum-known-overload
     enum-told-2
-    told-requires-2
+    without-packets-requires-2
     returns-2
     adc0-overload-requires
     observe-requires

@@ -10,19 +10,19 @@ use borrow.Author.Needs.{needs}
 use Rattle.session.proofs.close.close.Statement.{statement}
 use Rattle.session.proofs.close.close.Tie as tie
 
-told-requires : tie.Need-told-requires
-told-requires c κs = search needs
+without-packets-requires : tie.Need-without-packets-requires
+without-packets-requires c κs = search needs
 
 returns : tie.Need-returns
 unfolding Close.close
-returns c = let a = c .before .before .before .args in ended-told (a .s) (a .packets .now) _ NotNow _ (c .told .ensures) (pick-t _ _ _ (c .before .if1 .taken))
+returns c = let a = c .before .before .before .args in ended-told (a .s) (a .packets .now) _ NotNow _ (c .without-packets .ensures) (pick-t _ _ _ (c .before .if1 .taken))
 
-told-requires-2 : tie.Need-told-requires-2
-told-requires-2 c κs = search needs
+without-packets-requires-2 : tie.Need-without-packets-requires-2
+without-packets-requires-2 c κs = search needs
 
 returns-2 : tie.Need-returns-2
 unfolding Close.close
-returns-2 c = let a = c .before .before .before .before .args in ended-told (a .s) (a .packets .now) _ NoRoom _ (c .told2 .ensures) (pick-f _ _ _ (c .before .before .if1 .left) ∙ pick-t _ _ _ (lt-ltb (length (a .packets .now)) 2888 (c .before .if2 .taken)))
+returns-2 c = let a = c .before .before .before .before .args in ended-told (a .s) (a .packets .now) _ NoRoom _ (c .without-packets2 .ensures) (pick-f _ _ _ (c .before .before .if1 .left) ∙ pick-t _ _ _ (lt-ltb (length (a .packets .now)) 2888 (c .before .if2 .taken)))
 
 stop-requires : tie.Need-stop-requires
 stop-requires c κs = search needs
@@ -37,4 +37,4 @@ returns-3 c = let a = c .before .before .before .before .before .before .before 
 pub close-spec : {M : Type 1} → statement M
 close-spec =
     tie.close
-    (tie.spec told-requires returns told-requires-2 returns-2 stop-requires same-length returns-3)
+    (tie.spec without-packets-requires returns without-packets-requires-2 returns-2 stop-requires same-length returns-3)

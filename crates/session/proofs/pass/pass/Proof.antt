@@ -14,27 +14,27 @@ use Rattle.session.proofs.pass.pass.Tie as tie
 not-reading-requires : tie.Need-not-reading-requires
 not-reading-requires c κs = search needs
 
-told-requires : tie.Need-told-requires
-told-requires c κs = search needs
+without-packets-requires : tie.Need-without-packets-requires
+without-packets-requires c κs = search needs
 
 returns : tie.Need-returns
 unfolding Pass.pass
-returns c = let a = c .before .before .before .before .before .args in passed-told (a .s) (a .packets .now) _ NotNow _ (c .told .ensures) (pick-t _ _ _ (was (c .before .before .not-reading .ensures) (c .before .if1 .taken)))
+returns c = let a = c .before .before .before .before .before .args in passed-told (a .s) (a .packets .now) _ NotNow _ (c .without-packets .ensures) (pick-t _ _ _ (was (c .before .before .not-reading .ensures) (c .before .if1 .taken)))
 
-told-requires-2 : tie.Need-told-requires-2
-told-requires-2 c κs = search needs
+without-packets-requires-2 : tie.Need-without-packets-requires-2
+without-packets-requires-2 c κs = search needs
 
 returns-2 : tie.Need-returns-2
 unfolding Pass.pass
-returns-2 c = let a = c .before .before .before .before .before .before .before .args in passed-told (a .s) (a .packets .now) _ ReadingFell _ (c .told2 .ensures) (pick-f _ _ _ (was (c .before .before .before .before .not-reading .ensures) (c .before .before .before .if1 .left)) ∙ pick-t _ _ _ (lt-ltb _ _ (c .before .if2 .taken)))
+returns-2 c = let a = c .before .before .before .before .before .before .before .args in passed-told (a .s) (a .packets .now) _ ReadingFell _ (c .without-packets2 .ensures) (pick-f _ _ _ (was (c .before .before .before .before .not-reading .ensures) (c .before .before .before .if1 .left)) ∙ pick-t _ _ _ (lt-ltb _ _ (c .before .if2 .taken)))
 
-told-requires-3 : tie.Need-told-requires-3
-told-requires-3 c κs = search needs
+without-packets-requires-3 : tie.Need-without-packets-requires-3
+without-packets-requires-3 c κs = search needs
 
 returns-3 : tie.Need-returns-3
 unfolding Pass.pass
 returns-3 c = let a = c .before .before .before .before .before .before .before .before .args in
-    passed-told (a .s) (a .packets .now) _ NoRoom _ (c .told3 .ensures)
+    passed-told (a .s) (a .packets .now) _ NoRoom _ (c .without-packets3 .ensures)
     (pick-f _ _ _ (was (c .before .before .before .before .before .not-reading .ensures) (c .before .before .before .before .if1 .left)) ∙ pick-f _ _ _ (le-ltb _ _ (c .before .before .if2 .left))
     ∙ pick-t _ _ _ (lt-ltb (length (a .packets .now)) 4452 (c .before .if3 .taken)))
 
@@ -57,11 +57,11 @@ pass-spec =
     tie.close
     (tie.spec
     not-reading-requires
-    told-requires
+    without-packets-requires
     returns
-    told-requires-2
+    without-packets-requires-2
     returns-2
-    told-requires-3
+    without-packets-requires-3
     returns-3
     passed-requires
     same-length

@@ -18,11 +18,11 @@ use Rattle.session.proofs.pass.passed.Tie as tie
 waits-requires : tie.Need-waits-requires
 waits-requires c κs = search needs
 
-told-requires : tie.Need-told-requires
-told-requires c κs = search needs
+without-packets-requires : tie.Need-without-packets-requires
+without-packets-requires c κs = search needs
 
 returns : tie.Need-returns
-returns c = let a = c .before .before .before .before .before .args in passed-told (a .s) (a .packets .now) _ Ready _ (c .told .ensures) (pass-ready (a .s) (a .reading) (a .packets .now) (was (c .before .before .waits .ensures) (c .before .if1 .taken)))
+returns c = let a = c .before .before .before .before .before .args in passed-told (a .s) (a .packets .now) _ Ready _ (c .without-packets .ensures) (pass-ready (a .s) (a .reading) (a .packets .now) (was (c .before .before .waits .ensures) (c .before .if1 .taken)))
 
 quiet-at-requires : tie.Need-quiet-at-requires
 quiet-at-requires c κs = search needs
@@ -79,7 +79,7 @@ passed-spec =
     tie.close
     (tie.spec
     waits-requires
-    told-requires
+    without-packets-requires
     returns
     quiet-at-requires
     enum-told
