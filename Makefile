@@ -17,9 +17,12 @@ vectors:
 	@rm -rf target/vectors; tools/vectors target/vectors
 	@cd target/vectors && find . -type f | while read -r f; do cmp -s "$$f" "../../$$f" || cp "$$f" "../../$$f"; done
 
-# Makes the table of seconds again, from which it is told how long a proof takes: from the log of the last `make test`.
+# Makes the tables of seconds again from the log of the last `make test`: the one from which it is told how long a proof takes, and
+# the one in docs/BENCHMARKS.md.
 seconds:
 	@tools/seconds crates.txt target/ci.log > tools/seconds.new && mv tools/seconds.new tools/seconds.txt
+	@tools/gate_table crates.txt target/ci.log > target/gate_table
+	@sed -i -e '/^<!-- gate -->$$/,/^<!-- end -->$$/{/^<!--/!d}' -e '/^<!-- gate -->$$/r target/gate_table' docs/BENCHMARKS.md
 
 # Builds the Rust under its scripted clock and socket, and runs the cases and the lists of calls through it.
 oracle:

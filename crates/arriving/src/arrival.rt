@@ -49,7 +49,11 @@ fn arrived(
     packets: &mut [u8],
 ) -> Arrived
     requires { ⌜ (length (now waiting) ≤ 8192) × (1444 ≤ length (now packets)) ⌝ }
-    ensures { λ r. ⌜ Gives (arrivalAnswer (r .answer)) (r .streams) (now (packets .exit)) (joined (r .session) (now (samples .exit))) (arrivedBy (joined s (now (samples .entry))) (incoming reading later from (now (datagram .entry)) (now (waiting .entry))) (now (packets .entry))) ⌝ }
+    ensures { λ r. ⌜
+        Gives (arrivalAnswer (r .answer)) (r .streams) (now (packets .exit)) (joined (r .session) (now (samples .exit)))
+        (arrivedBy (joined s (now (samples .entry)))
+        (incoming reading later from (now (datagram .entry)) (now (waiting .entry))) (now (packets .entry)))
+        ⌝ }
 {
     let settings = s.common.settings;
     let kind = routed(settings.radio_ip, settings.port, from, datagram);
@@ -76,6 +80,11 @@ fn arrived(
     }
 }
 
+// A datagram has come, to an open read in which no samples wait: `reading` is when, `later` when it is looked at, `from` its sender,
+// `waiting` the numbers of the datagrams that wait behind it, at most 8192. Lend the session's 476 f32, and at least 1444 octets for
+// packets, also where none is written. Iq: the event and what it misses; unless it is Stale, samples wait now, take them. Status: send
+// the packet if `streams` lists one. Ignored, Malformed: go on. MalformedLimit: the read is closed, begin another. NotNow (10),
+// ReadingFell (11), SamplesWait (12), LaterFell (13), TooManyWaiting (14) and NoRoom (15) refuse, and change nothing.
 pub fn arrival(
     s: Session,
     samples: &mut [f32; F32_PER_DATAGRAM],
@@ -86,7 +95,11 @@ pub fn arrival(
     waiting: &[u32],
     packets: &mut [u8],
 ) -> Arrived
-    ensures { λ r. ⌜ Gives (arrivalAnswer (r .answer)) (r .streams) (now (packets .exit)) (joined (r .session) (now (samples .exit))) (Arrival.arrival (joined s (now (samples .entry))) (incoming reading later from (now (datagram .entry)) (now (waiting .entry))) (now (packets .entry))) ⌝ }
+    ensures { λ r. ⌜
+        Gives (arrivalAnswer (r .answer)) (r .streams) (now (packets .exit)) (joined (r .session) (now (samples .exit)))
+        (Arrival.arrival (joined s (now (samples .entry)))
+        (incoming reading later from (now (datagram .entry)) (now (waiting .entry))) (now (packets .entry)))
+        ⌝ }
 {
     let receiver = s.receiver;
     if not_reading(s.common.closed, receiver) {

@@ -23,7 +23,10 @@ fn note_heard(c: Common, health: InputHealthCounters) -> Common
 }
 
 pub(crate) fn heard_iq(s: Session, h: Heard) -> Arrived
-    ensures { λ r. ⌜ r ≡ record { answer = Iq (h .event) (h .missing); streams = streamsAs []; session = record { common = heardCommon (h .health) (s .common); receiver = h .receiver } } ⌝ }
+    ensures { λ r. ⌜
+        r ≡ record
+        { answer = Iq (h .event) (h .missing); streams = streamsAs []; session = record { common = heardCommon (h .health) (s .common); receiver = h .receiver } }
+        ⌝ }
 {
     let common = s.common;
     let health = h.health;

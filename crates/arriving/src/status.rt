@@ -21,7 +21,10 @@ use wire::status::adc0_overload;
 // What the controller made of an overload bit; a step up writes its packet.
 fn stepped(s: Session, made: Stepped, later: u64, packets: &mut [u8]) -> Arrived
     requires { ⌜ 1444 ≤ length (now packets) ⌝ }
-    ensures { λ r. ⌜ Gives (arrivalAnswer (r .answer)) (r .streams) (now (packets .exit)) (r .session) (wrote (done status) s (now (packets .entry)) (Sending.stepped later made (s .common))) ⌝ }
+    ensures { λ r. ⌜
+        Gives (arrivalAnswer (r .answer)) (r .streams) (now (packets .exit)) (r .session)
+        (wrote (done status) s (now (packets .entry)) (Sending.stepped later made (s .common)))
+        ⌝ }
 {
     let common = s.common;
     let sent = apply_step(start(common), made, later, packets);

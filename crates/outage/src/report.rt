@@ -60,7 +60,9 @@ fn report_restart(rate: f64, outage: u64, pending: Pending, health: InputHealthC
 // The time that a restart misses, of a receiver whose tracker has heard it.
 fn outage_after(rate: f64, r: Receiver, reading: u64, later: u64, waiting: &[u32]) -> u64
     requires { ⌜ length (now waiting) ≤ 8192 ⌝ }
-    ensures { λ t. ⌜ t ≡ Rules.outage rate (r .«last_accepted_iq») (r .parked .window) reading later (r .tracker) (now (waiting .entry)) ⌝ }
+    ensures { λ t. ⌜
+        t ≡ Rules.outage rate (r .«last_accepted_iq») (r .parked .window) reading later (r .tracker) (now (waiting .entry))
+        ⌝ }
 {
     let parked = r.parked;
     let window = parked.window;
@@ -87,7 +89,10 @@ pub fn report_event(
     waiting: &[u32],
 ) -> Report
     requires { ⌜ length (now waiting) ≤ 8192 ⌝ }
-    ensures { λ p. ⌜ p ≡ reportOf rate event (Rules.missingOf event (restartOf rate r reading later (now (waiting .entry)))) (r .pending) health ⌝ }
+    ensures { λ p. ⌜
+        p ≡ reportOf rate event (Rules.missingOf event (restartOf rate r reading later (now (waiting .entry)))) (r .pending)
+        health
+        ⌝ }
 {
     let pending = r.pending;
     match event {

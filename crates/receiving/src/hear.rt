@@ -103,7 +103,10 @@ pub fn hear(
     waiting: &[u32],
 ) -> Heard
     requires { ⌜ (headerTold (now datagram) ≡ gives (count ∷ [])) × (length (now waiting) ≤ 8192) ⌝ }
-    ensures { λ h. ⌜ Hears rate r health (now (samples .entry)) reading later count (now (datagram .entry)) (now (waiting .entry)) h (now (samples .exit)) ⌝ }
+    ensures { λ h. ⌜
+        Hears rate r health (now (samples .entry)) reading later count (now (datagram .entry)) (now (waiting .entry)) h
+        (now (samples .exit))
+        ⌝ }
 {
     let judged = judge(rate, r, reading, count);
     let event = judged.event;

@@ -40,8 +40,15 @@ fn run(
     places: &mut [f32],
     answers: &mut [u64],
 ) -> Session
-    requires { ⌜ outcomeOf (lentBy (now calls) (now octets) (now numbers) (now packets) (now places)) (length (now answers)) ≡ Ran ⌝ }
-    ensures { λ r. ⌜ RunsAll (joined first (now (samples .entry))) (lentBy (now (calls .entry)) (now (octets .entry)) (now (numbers .entry)) (now (packets .entry)) (now (places .entry))) (now (answers .exit)) (now (packets .exit)) (now (places .exit)) (joined r (now (samples .exit))) ⌝ }
+    requires { ⌜
+        outcomeOf (lentBy (now calls) (now octets) (now numbers) (now packets) (now places)) (length (now answers)) ≡ Ran
+        ⌝ }
+    ensures { λ r. ⌜
+        RunsAll (joined first (now (samples .entry)))
+        (lentBy (now (calls .entry)) (now (octets .entry)) (now (numbers .entry)) (now (packets .entry))
+        (now (places .entry)))
+        (now (answers .exit)) (now (packets .exit)) (now (places .exit)) (joined r (now (samples .exit)))
+        ⌝ }
 {
     let room = Amounts {
         octets: octets.len(),
@@ -90,7 +97,10 @@ fn is_accepted(answer: SettingsAnswer) -> bool
     }
 }
 
-// From any session. A list that is refused leaves the session and every lent buffer as they were.
+// Runs a list of calls from any session. `calls` has eight numbers a call (`encoding::words`), `answers` as many places; `octets`,
+// `numbers`, `packets` and `places` hold what the calls lend, one behind the other. Ran: each answer stands in its eight places
+// (`encoding::answer`), each packet and sample in its call's own part. Any other outcome names what is wrong with the list: the
+// session and every lent buffer are then as they were.
 pub fn carry_on(
     s: Session,
     samples: &mut [f32; F32_PER_DATAGRAM],
@@ -101,7 +111,13 @@ pub fn carry_on(
     places: &mut [f32],
     answers: &mut [u64],
 ) -> Carried
-    ensures { λ r. ⌜ Carries (r .outcome) (joined s (now (samples .entry))) (lentBy (now (calls .entry)) (now (octets .entry)) (now (numbers .entry)) (now (packets .entry)) (now (places .entry))) (now (answers .entry)) (now (answers .exit)) (now (packets .exit)) (now (places .exit)) (joined (r .session) (now (samples .exit))) ⌝ }
+    ensures { λ r. ⌜
+        Carries (r .outcome) (joined s (now (samples .entry)))
+        (lentBy (now (calls .entry)) (now (octets .entry)) (now (numbers .entry)) (now (packets .entry))
+        (now (places .entry)))
+        (now (answers .entry)) (now (answers .exit)) (now (packets .exit)) (now (places .exit))
+        (joined (r .session) (now (samples .exit)))
+        ⌝ }
 {
     let room = Amounts {
         octets: octets.len(),
@@ -134,7 +150,9 @@ pub struct Replayed {
     pub session: Session,
 }
 
-// From a session just opened. Where the settings are refused nothing is run.
+// Runs a list of calls from a session just opened with these settings and this opening reading; what is lent is as for `carry_on`.
+// NotOpened: the settings were refused, `answer` says by which row, and nothing is run. Of a list that was run, demand 3 holds: it is
+// part of the promise.
 pub fn replay(
     settings: Settings,
     opening: u64,
@@ -146,7 +164,13 @@ pub fn replay(
     places: &mut [f32],
     answers: &mut [u64],
 ) -> Replayed
-    ensures { λ r. ⌜ Replays settings opening (r .answer) (r .outcome) (now (samples .entry)) (lentBy (now (calls .entry)) (now (octets .entry)) (now (numbers .entry)) (now (packets .entry)) (now (places .entry))) (now (answers .entry)) (now (answers .exit)) (now (packets .exit)) (now (places .exit)) (joined (r .session) (now (samples .exit))) ⌝ }
+    ensures { λ r. ⌜
+        Replays settings opening (r .answer) (r .outcome) (now (samples .entry))
+        (lentBy (now (calls .entry)) (now (octets .entry)) (now (numbers .entry)) (now (packets .entry))
+        (now (places .entry)))
+        (now (answers .entry)) (now (answers .exit)) (now (packets .exit)) (now (places .exit))
+        (joined (r .session) (now (samples .exit)))
+        ⌝ }
 {
     let opened = open(settings, opening);
     let answer = opened.answer;

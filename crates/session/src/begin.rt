@@ -10,6 +10,9 @@ use model::session::Session;
 use receiving::read::begun_by;
 use receiving::read::not_idle;
 
+// Opens a read, at the reading `now`. After a pause of 100 ms or more since the last Take it opens or refills the park window. Begun:
+// call `pass` and `arrival` by turns, until one of them closes the read or samples wait. NotNow (10): the session is closed, or a
+// read is open already. ReadingFell (11): a reading may not be below the last accepted one. A refusal changes nothing.
 pub fn begin(s: Session, now: u64) -> Begun
     ensures { λ r. ⌜ replied (beginAnswer (r .answer)) [] [] [] (r .session) ≡ Begin.begin s now ⌝ }
 {

@@ -30,7 +30,9 @@ fn without_packets(answer: CloseAnswer, session: Session) -> Ended
 // The packets are written, and the session is closed; the queue, the slots and the stall flag stay, and no clock moves.
 fn stop(s: Session, packets: &mut [u8]) -> Ended
     requires { ⌜ 2888 ≤ length (now packets) ⌝ }
-    ensures { λ r. ⌜ Gives (closeAnswer (r .answer)) (r .streams) (now (packets .exit)) (r .session) (Close.stop s (now (packets .entry))) ⌝ }
+    ensures { λ r. ⌜
+        Gives (closeAnswer (r .answer)) (r .streams) (now (packets .exit)) (r .session) (Close.stop s (now (packets .entry)))
+        ⌝ }
 {
     let common = s.common;
     let sent = send_stop(start(common), packets);
@@ -46,8 +48,13 @@ fn stop(s: Session, packets: &mut [u8]) -> Ended
     }
 }
 
+// Closes the session, with at least 2888 octets lent for packets. Closed: send the two packets that `streams` lists, which stop the
+// radio; the drains can still be asked, every other call is refused by 10. NotNow (10, closed already) and NoRoom (15) refuse, and
+// change nothing. What waits and is not taken before is lost to the caller.
 pub fn close(s: Session, packets: &mut [u8]) -> Ended
-    ensures { λ r. ⌜ Gives (closeAnswer (r .answer)) (r .streams) (now (packets .exit)) (r .session) (Close.close s (now (packets .entry))) ⌝ }
+    ensures { λ r. ⌜
+        Gives (closeAnswer (r .answer)) (r .streams) (now (packets .exit)) (r .session) (Close.close s (now (packets .entry)))
+        ⌝ }
 {
     if s.common.closed {
         return without_packets(CloseAnswer::NotNow, s);

@@ -9,6 +9,8 @@ use model::answer::StallTaken;
 use model::session::Session;
 use outage::pending;
 
+// What gaps below half a second have missed since this was last asked, in samples: the caller makes up for them, for instance by
+// silence. Empty: none was told; a slot that holds 0 is another thing. It is never refused, and works after Close.
 pub fn take_missing_samples(s: Session) -> Drained
     ensures { λ r. ⌜ replied (slot (r .slot)) [] [] [] (r .session) ≡ Drain.takeMissing s ⌝ }
 {
@@ -26,6 +28,8 @@ pub fn take_missing_samples(s: Session) -> Drained
     }
 }
 
+// What longer gaps and restarts have missed since this was last asked, in samples: the stream broke off there, and the caller starts
+// anew. Empty: none was told; 0 is a restart that missed nothing. It is never refused, and works after Close.
 pub fn take_discontinuity(s: Session) -> Drained
     ensures { λ r. ⌜ replied (slot (r .slot)) [] [] [] (r .session) ≡ Drain.takeDiscontinuity s ⌝ }
 {
@@ -43,6 +47,8 @@ pub fn take_discontinuity(s: Session) -> Drained
     }
 }
 
+// Whether a soft stall was told since this was last asked: a stream that delivered has fallen quiet. It is told once, and again only
+// after a further Take. It is never refused, and works after Close.
 pub fn take_stalled(s: Session) -> StallTaken
     ensures { λ r. ⌜ replied (flag (r .stalled)) [] [] [] (r .session) ≡ Drain.takeStalled s ⌝ }
 {

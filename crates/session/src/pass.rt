@@ -50,7 +50,10 @@ fn read_closed(answer: PassAnswer, s: Session, receiver: Receiver) -> Passed
 // What is due is written.
 fn sent(s: Session, reading: u64, packets: &mut [u8]) -> Passed
     requires { ⌜ 4452 ≤ length (now packets) ⌝ }
-    ensures { λ r. ⌜ Gives (passAnswer (r .answer)) (r .streams) (now (packets .exit)) (r .session) (wrote (done Answer.sent) s (now (packets .entry)) (duePackets reading (s .common))) ⌝ }
+    ensures { λ r. ⌜
+        Gives (passAnswer (r .answer)) (r .streams) (now (packets .exit)) (r .session)
+        (wrote (done Answer.sent) s (now (packets .entry)) (duePackets reading (s .common)))
+        ⌝ }
 {
     let common = s.common;
     let sent = send_due(start(common), reading, packets);
@@ -68,7 +71,10 @@ fn sent(s: Session, reading: u64, packets: &mut [u8]) -> Passed
 // After every refusal, of a session whose last reading is this one.
 fn passed(s: Session, reading: u64, packets: &mut [u8]) -> Passed
     requires { ⌜ 4452 ≤ length (now packets) ⌝ }
-    ensures { λ r. ⌜ Gives (passAnswer (r .answer)) (r .streams) (now (packets .exit)) (r .session) (Pass.passed s reading (now (packets .entry))) ⌝ }
+    ensures { λ r. ⌜
+        Gives (passAnswer (r .answer)) (r .streams) (now (packets .exit)) (r .session)
+        (Pass.passed s reading (now (packets .entry)))
+        ⌝ }
 {
     let receiver = s.receiver;
     if waits(receiver) {
@@ -83,8 +89,15 @@ fn passed(s: Session, reading: u64, packets: &mut [u8]) -> Passed
     }
 }
 
+// A turn of an open read, at `reading`, with at least 4452 octets lent for packets, also where none is written. Ready: samples wait,
+// take them. Sent: send the packets that `streams` lists, one after another from the buffer's front, each to its stream's port
+// (`model::command::destination`); none may be listed. SoftStall, HardStall: the read is closed, begin another. NotNow (10),
+// ReadingFell (11) and NoRoom (15) refuse, and change nothing.
 pub fn pass(s: Session, reading: u64, packets: &mut [u8]) -> Passed
-    ensures { λ r. ⌜ Gives (passAnswer (r .answer)) (r .streams) (now (packets .exit)) (r .session) (Pass.pass s reading (now (packets .entry))) ⌝ }
+    ensures { λ r. ⌜
+        Gives (passAnswer (r .answer)) (r .streams) (now (packets .exit)) (r .session)
+        (Pass.pass s reading (now (packets .entry)))
+        ⌝ }
 {
     let receiver = s.receiver;
     if not_reading(s.common.closed, receiver) {

@@ -22,13 +22,19 @@ fn least(a: usize, b: usize) -> usize
     if a <= b { a } else { b }
 }
 
+// Hands out waiting samples, at `reading`: `samples` are the 476 f32 lent beside the session, `buffer` gets I, Q pairs from its front,
+// as many as it has room for. Took: so many pairs; the read is closed. What is left waits for the next read's Take. NotNow (10),
+// ReadingFell (11), NoRoom (16: fewer than 2 f32) and NothingWaits (17) refuse, and change nothing.
 pub fn take(
     s: Session,
     samples: &[f32; F32_PER_DATAGRAM],
     reading: u64,
     buffer: &mut [f32],
 ) -> Handed
-    ensures { λ r. ⌜ replied (takeAnswer (r .answer)) [] [] (now (buffer .exit)) (joined (r .session) (now (samples .entry))) ≡ Take.takeOut (joined s (now (samples .entry))) reading (now (buffer .entry)) ⌝ }
+    ensures { λ r. ⌜
+        replied (takeAnswer (r .answer)) [] [] (now (buffer .exit)) (joined (r .session) (now (samples .entry))) ≡
+        Take.takeOut (joined s (now (samples .entry))) reading (now (buffer .entry))
+        ⌝ }
 {
     let receiver = s.receiver;
     if not_reading(s.common.closed, receiver) {

@@ -91,7 +91,14 @@ fn arrival(
     packets: &mut [u8],
 ) -> Replied
     requires { ⌜ isCall w ≡ true ⌝ }
-    ensures { λ r. ⌜ Replies r (now (samples .exit)) (now (packets .exit)) [] (step (joined s (now (samples .entry))) (Arrival (incoming (w .reading) (w .later) (senderOf (w .address) (w .port)) (now (datagram .entry)) (now (waiting .entry))) (now (packets .entry)))) ⌝ }
+    ensures { λ r. ⌜
+        Replies r (now (samples .exit)) (now (packets .exit)) []
+        (step (joined s (now (samples .entry)))
+        (Arrival
+        (incoming (w .reading) (w .later) (senderOf (w .address) (w .port)) (now (datagram .entry))
+        (now (waiting .entry)))
+        (now (packets .entry))))
+        ⌝ }
 {
     let from = sender(w.address, w.port);
     let r = arriving::arrival::arrival(
@@ -116,7 +123,10 @@ fn arrival(
 }
 
 fn take(s: Session, samples: &[f32; F32_PER_DATAGRAM], reading: u64, places: &mut [f32]) -> Replied
-    ensures { λ r. ⌜ Replies r (now (samples .entry)) [] (now (places .exit)) (step (joined s (now (samples .entry))) (Take reading (now (places .entry)))) ⌝ }
+    ensures { λ r. ⌜
+        Replies r (now (samples .entry)) [] (now (places .exit))
+        (step (joined s (now (samples .entry))) (Take reading (now (places .entry))))
+        ⌝ }
 {
     let r = session::take::take(s, samples, reading, places);
     let a = r.answer;
@@ -196,7 +206,12 @@ pub(crate) fn call(
     places: &mut [f32],
 ) -> Replied
     requires { ⌜ isCall w ≡ true ⌝ }
-    ensures { λ r. ⌜ Replies r (now (samples .exit)) (pick (lendsPackets (w .kind)) (now (packets .exit)) []) (pick (eqb (w .kind) 3) (now (places .exit)) []) (step (joined s (now (samples .entry))) (callOf w (now (octets .entry)) (now (numbers .entry)) (now (packets .entry)) (now (places .entry)))) ⌝ }
+    ensures { λ r. ⌜
+        Replies r (now (samples .exit)) (pick (lendsPackets (w .kind)) (now (packets .exit)) [])
+        (pick (eqb (w .kind) 3) (now (places .exit)) [])
+        (step (joined s (now (samples .entry)))
+        (callOf w (now (octets .entry)) (now (numbers .entry)) (now (packets .entry)) (now (places .entry))))
+        ⌝ }
 {
     if w.kind == BEGIN {
         return begin(s, w.reading);

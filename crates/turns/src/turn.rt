@@ -27,8 +27,15 @@ fn turn(
     places: &mut [f32],
     answers: &mut [u64],
 ) -> Session
-    requires { ⌜ (isCall w ≡ true) × (length (now answers) ≡ 8) × Within from to × (to .octets ≤ length (now octets)) × (to .numbers ≤ length (now numbers)) ⌝ }
-    ensures { λ r. ⌜ Turns w (joined s (now (samples .entry))) (between (from .octets) (to .octets) (now (octets .entry))) (between (from .numbers) (to .numbers) (now (numbers .entry))) (now (packets .entry)) (now (places .entry)) (joined r (now (samples .exit))) (now (packets .exit)) (now (places .exit)) (now (answers .exit)) ⌝ }
+    requires { ⌜
+        (isCall w ≡ true) × (length (now answers) ≡ 8) × Within from to × (to .octets ≤ length (now octets)) ×
+        (to .numbers ≤ length (now numbers))
+        ⌝ }
+    ensures { λ r. ⌜
+        Turns w (joined s (now (samples .entry))) (between (from .octets) (to .octets) (now (octets .entry)))
+        (between (from .numbers) (to .numbers) (now (numbers .entry))) (now (packets .entry)) (now (places .entry))
+        (joined r (now (samples .exit))) (now (packets .exit)) (now (places .exit)) (now (answers .exit))
+        ⌝ }
 {
     let o = from.octets;
     let o_end = to.octets;
@@ -63,8 +70,15 @@ pub fn turn_at(
     at: usize,
     answers: &mut [u64],
 ) -> Session
-    requires { ⌜ (isCall w ≡ true) × (at + 8 ≤ length (now answers)) × Within from to × (to .octets ≤ length (now octets)) × (to .numbers ≤ length (now numbers)) × (to .packets ≤ length (now packets)) × (to .places ≤ length (now places)) ⌝ }
-    ensures { λ r. ⌜ TurnsAt w from to at (joined s (now (samples .entry))) (now (octets .entry)) (now (numbers .entry)) (now (packets .entry)) (now (places .entry)) (now (answers .entry)) (joined r (now (samples .exit))) (now (packets .exit)) (now (places .exit)) (now (answers .exit)) ⌝ }
+    requires { ⌜
+        (isCall w ≡ true) × (at + 8 ≤ length (now answers)) × Within from to × (to .octets ≤ length (now octets)) ×
+        (to .numbers ≤ length (now numbers)) × (to .packets ≤ length (now packets)) × (to .places ≤ length (now places))
+        ⌝ }
+    ensures { λ r. ⌜
+        TurnsAt w from to at (joined s (now (samples .entry))) (now (octets .entry)) (now (numbers .entry))
+        (now (packets .entry)) (now (places .entry)) (now (answers .entry)) (joined r (now (samples .exit)))
+        (now (packets .exit)) (now (places .exit)) (now (answers .exit))
+        ⌝ }
 {
     let p = from.packets;
     let p_end = to.packets;

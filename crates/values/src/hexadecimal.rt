@@ -11,7 +11,10 @@ use text::Spelt;
 // Puts the octets that w spells at the front of room; false where one is no pair of digits.
 fn decode(w: &[u8], count: usize, room: &mut [u8]) -> bool
     requires { ⌜ (count * 2 ≡ length (now w)) × (count ≤ length (now room)) ⌝ }
-    ensures { λ r. ⌜ (r ≡ hexadecimal (now (w .entry))) × (r ≡ true → now (room .exit) ≡ written (now (room .entry)) 0 (octetsOf (now (w .entry)))) ⌝ }
+    ensures { λ r. ⌜
+        (r ≡ hexadecimal (now (w .entry))) ×
+        (r ≡ true → now (room .exit) ≡ written (now (room .entry)) 0 (octetsOf (now (w .entry))))
+        ⌝ }
 {
     let mut i = 0;
     while i < count {
@@ -32,7 +35,10 @@ fn decode(w: &[u8], count: usize, room: &mut [u8]) -> bool
 // The octets of a word, or `-` for none: how many.
 pub fn octets(w: &[u8], room: &mut [u8]) -> Spelt
     requires { ⌜ 2048 ≤ length (now room) ⌝ }
-    ensures { λ r. ⌜ (r ≡ octetCount (now (w .entry))) × ((n : ℕ) → r ≡ Number n → now (room .exit) ≡ written (now (room .entry)) 0 (octetsOf (now (w .entry)))) ⌝ }
+    ensures { λ r. ⌜
+        (r ≡ octetCount (now (w .entry))) ×
+        ((n : ℕ) → r ≡ Number n → now (room .exit) ≡ written (now (room .entry)) 0 (octetsOf (now (w .entry))))
+        ⌝ }
 {
     if check::same(w, b"-") {
         return Spelt::Number(0);

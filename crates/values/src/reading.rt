@@ -29,7 +29,10 @@ pub fn number(w: &[u8], most: u64) -> Spelt
 }
 
 fn ends(w: &[u8], unit: &[u8]) -> bool
-    ensures { λ r. ⌜ (r ≡ Value.ends (now (w .entry)) (now (unit .entry))) × (r ≡ true → length (now (unit .entry)) ≤ length (now (w .entry))) ⌝ }
+    ensures { λ r. ⌜
+        (r ≡ Value.ends (now (w .entry)) (now (unit .entry))) ×
+        (r ≡ true → length (now (unit .entry)) ≤ length (now (w .entry)))
+        ⌝ }
 {
     if w.len() < unit.len() {
         return false;

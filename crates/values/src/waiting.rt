@@ -52,7 +52,10 @@ fn fill(numbers: &mut [u32], at: usize, first: u64, k: u64)
 // With commas between: how many.
 pub fn waiting(w: &[u8], numbers: &mut [u32]) -> Spelt
     requires { ⌜ 8193 ≤ length (now numbers) ⌝ }
-    ensures { λ r. ⌜ (r ≡ waitingCount (now (w .entry))) × ((n : ℕ) → r ≡ Number n → now (numbers .exit) ≡ written (now (numbers .entry)) 0 (waitingNumbers (now (w .entry)))) ⌝ }
+    ensures { λ r. ⌜
+        (r ≡ waitingCount (now (w .entry))) ×
+        ((n : ℕ) → r ≡ Number n → now (numbers .exit) ≡ written (now (numbers .entry)) 0 (waitingNumbers (now (w .entry))))
+        ⌝ }
 {
     let mut n: u64 = 0;
     let mut at = 0;
