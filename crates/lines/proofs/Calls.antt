@@ -3,15 +3,14 @@ use mathlib.Core.Path.{_≡_, refl, sym, ap, _∙_}
 use mathlib.Core.List.{List, [], _∷_, _++_}
 use Prim.Native.Nat.{ℕ, _+_, _≤_, _<_}
 use native.Mathlib.Omega.{arith}
-use borrow.Author.Tests.{lt-ltb, le-ltb, eq-eqb, ne-eqb}
+use borrow.Author.Tests.{lt-ltb, le-ltb, le-leb, lt-leb, eq-eqb, ne-eqb}
 use lib.Dec.{eqb}
-use lib.ListN.{length, take, drop, getD, drop-of-length-le}
+use lib.ListN.{length, drop, getD, drop-of-length-le}
 use Rattle.base.specs.Pick.{pick}
 use Rattle.base.proofs.Picks.{pick-t, pick-f}
 use Rattle.octets.proofs.Writes.{stores, stores-written, written-front}
-use Rattle.text.specs.Run.{run, other}
-use Rattle.text.specs.Name.{ascii, place}
-use Rattle.text.specs.Split.{parts, notEmpty, blank, grown, words, part, WordAt}
+use Rattle.text.specs.Name.{place}
+use Rattle.text.specs.Split.{words, part, WordAt}
 use Rattle.text.proofs.Splits.{no-word, one-word}
 use Rattle.lines.specs.declared.Expected.{Expected}
 use Rattle.lines.specs.declared.Expected.the-variants as Expected
@@ -19,15 +18,13 @@ use Rattle.lines.specs.declared.Read.{Read}
 use Rattle.lines.specs.declared.Read.the-variants as Read
 use Rattle.lines.specs.declared.option.Took.{Took}
 use Rattle.lines.specs.declared.option.Took.the-variants.{Taken, Unknown, Unreadable}
-use Rattle.lines.specs.Argument.{names, form, argumentValues, argumentOctets, Arguments}
+use Rattle.lines.specs.Key.{bufferKey, keyCount, wordsAt, unsaid}
+use Rattle.lines.specs.Name.{names, stateName, openName, nameCount, ends, textOf}
+use Rattle.lines.specs.Argument.{allRead, form, argumentValues, argumentOctets, Arguments}
 use Rattle.lines.specs.Option.{optionsTook, optionsValues, optionsNumbers, Ran}
-use Rattle.lines.specs.Call.{expectedWord, optioned, ends, unsaid, argumentsOf, optionsOf, readNamed, readWords, wordsOf, longest, readLine, valuesOf, callOf, octetsOf, Named, nameOf, after, Line}
+use Rattle.lines.specs.Call.{expectedWord, optioned, argumentsOf, optionsOf, readNamed, readWords, wordsOf, longest, readLine, valuesOf, callOf, octetsOf, Named, nameOf, after, Line}
 use Rattle.lines.proofs.Forms.{getD-under}
 use Rattle.lines.proofs.Bounds.{Held, held-options, held-form, fit}
-
-pub call-names : words (ascii "begin pass iq status datagram take close missing discontinuity stalled state open") ≡ names
-unfolding words parts notEmpty blank grown
-call-names = refl
 
 -- eight stores in a list of eight are the list
 pub eight-stores : (l : List ℕ) (a b c d e f g h : ℕ) → length l ≡ 8
@@ -37,7 +34,7 @@ eight-stores l a b c d e f g h n =
     stores-written l 0 out (omega arith) ∙ written-front l out 8 refl ∙ ap (λ (x : List ℕ). out ++ x) (drop-of-length-le l {i = 8} (omega arith))
 
 module _ (name ip port : ℕ) (s l d n : List ℕ) (ws : List (List ℕ)) (u : l ≡ unsaid) (r at : ℕ) (m e : List ℕ) (g : Arguments (form name) s l d ws r at m e) where
-  pub not-read : (r ≡ 6 → ⊥) → (c x y : List ℕ) → Named name ip port d n ws (Read.Unread (expectedWord r)) c x y
+  pub not-read : (r ≡ allRead → ⊥) → (c x y : List ℕ) → Named name ip port d n ws (Read.Unread (expectedWord r)) c x y
   unfolding readNamed
   not-read h c x y =
       record {
@@ -50,18 +47,18 @@ module _ (name ip port : ℕ) (s l d n : List ℕ) (ws : List (List ℕ)) (u : l
         fit = λ q. let z : _≡_ {A = ℕ} 0 1 = cc in absurd (omega arith);
       }
 
-  module _ (h : r ≡ 6) (to : ℕ) (k : to ≡ getD ends name 0) (q : Took) (m2 n2 : List ℕ) (o : Ran 13 to m n (words (drop at s)) q m2 n2) where
+  module _ (h : r ≡ allRead) (to : ℕ) (k : to ≡ getD ends name 0) (q : Took) (m2 n2 : List ℕ) (o : Ran bufferKey to m n (words (drop at s)) q m2 n2) where
     values-here : m ≡ argumentsOf name ws
-    values-here = g .values h ∙ ap (argumentValues 36 (form name) ws) u
+    values-here = g .values h ∙ ap (argumentValues wordsAt (form name) ws) u
 
-    told-here : optioned q Expected.End (pick (eqb name 10) Read.State Read.Call) ≡ readNamed name ws
+    told-here : optioned q Expected.End (pick (eqb name stateName) Read.State Read.Call) ≡ readNamed name ws
     unfolding readNamed
     told-here =
-        ap (λ (x : Took). optioned x Expected.End (pick (eqb name 10) Read.State Read.Call))
+        ap (λ (x : Took). optioned x Expected.End (pick (eqb name stateName) Read.State Read.Call))
         (o .told
-        ∙ ap (λ (x : ℕ). optionsTook 13 x m (words (drop at s))) k
-        ∙ ap (λ (x : List ℕ). optionsTook 13 (getD ends name 0) x (words (drop at s))) values-here
-        ∙ ap (optionsTook 13 (getD ends name 0) (argumentsOf name ws)) (g .follows h))
+        ∙ ap (λ (x : ℕ). optionsTook bufferKey x m (words (drop at s))) k
+        ∙ ap (λ (x : List ℕ). optionsTook bufferKey (getD ends name 0) x (words (drop at s))) values-here
+        ∙ ap (optionsTook bufferKey (getD ends name 0) (argumentsOf name ws)) (g .follows h))
         ∙ sym (pick-t _ _ _ (eq-eqb _ _ (sym (g .told) ∙ h)))
 
     stopped : (x : Read) → (x ≡ Read.Call → ⊥) → x ≡ readNamed name ws → (c y z : List ℕ) → Named name ip port d n ws x c y z
@@ -76,9 +73,9 @@ module _ (name ip port : ℕ) (s l d n : List ℕ) (ws : List (List ℕ)) (u : l
     unread-value j t c y z = stopped _ (λ q. let z : _≡_ {A = ℕ} 0 1 = cc in omega arith) (rw t at told-here) c y z
 
     module _ (t : q ≡ Taken) where
-      pub state : name ≡ 10 → (c y z : List ℕ) → Named name ip port d n ws Read.State c y z
+      pub state : name ≡ stateName → (c y z : List ℕ) → Named name ip port d n ws Read.State c y z
       unfolding optioned
-      state f c y z = stopped _ (λ q. let z : _≡_ {A = ℕ} 0 1 = cc in omega arith) (sym (pick-t _ _ _ (eq-eqb name 10 f)) ∙ (rw t at told-here)) c y z
+      state f c y z = stopped _ (λ q. let z : _≡_ {A = ℕ} 0 1 = cc in omega arith) (sym (pick-t _ _ _ (eq-eqb name stateName f)) ∙ (rw t at told-here)) c y z
 
       values-then : m2 ≡ valuesOf name ws
       unfolding valuesOf
@@ -86,17 +83,17 @@ module _ (name ip port : ℕ) (s l d n : List ℕ) (ws : List (List ℕ)) (u : l
 
       pub held : Held name m2
       held =
-          let b : to ≤ 18 = omega (arith, getD-under 19 ends (omega arith) tt name) in
-          let a : optionsTook 13 to (argumentsOf name ws) (words (drop at s)) ≡ Taken =
-          ap (λ (x : List ℕ). optionsTook 13 to x (words (drop at s))) (sym values-here) ∙ sym (o .told) ∙ t in
+          let b : to ≤ keyCount = omega (arith, getD-under (keyCount + 1) ends (omega arith) tt name) in
+          let a : optionsTook bufferKey to (argumentsOf name ws) (words (drop at s)) ≡ Taken =
+          ap (λ (x : List ℕ). optionsTook bufferKey to x (words (drop at s))) (sym values-here) ∙ sym (o .told) ∙ t in
           let v : optionsValues (argumentsOf name ws) (words (drop at s)) ≡ m2 = sym (o .values t ∙ ap (λ (x : List ℕ). optionsValues x (words (drop at s))) values-here) in
-          rw v at (held-options name 13 to (words (drop at s)) (argumentsOf name ws) b a (held-form name ws))
+          rw v at (held-options name bufferKey to (words (drop at s)) (argumentsOf name ws) b a (held-form name ws))
 
-      pub done : (name ≡ 10 → ⊥) → ip < 4294967296 → (c y : List ℕ) → c ≡ callOf name ip port m2 → y ≡ octetsOf name m2 e → Named name ip port d n ws Read.Call c y n2
+      pub done : (name ≡ stateName → ⊥) → ip < 4294967296 → (c y : List ℕ) → c ≡ callOf name ip port m2 → y ≡ octetsOf name m2 e → Named name ip port d n ws Read.Call c y n2
       unfolding optioned
       done f b c y p w =
           record {
-            told = sym (pick-f _ _ _ (ne-eqb name 10 f)) ∙ (rw t at told-here);
+            told = sym (pick-f _ _ _ (ne-eqb name stateName f)) ∙ (rw t at told-here);
             call = λ q. p ∙ ap (callOf name ip port) values-then;
             octets = λ q. w ∙ ap (λ (x : List ℕ). octetsOf name x e) values-then ∙ ap (octetsOf name (valuesOf name ws)) (g .octets h);
             numbers = λ q. o .numbers t ∙ ap (optionsNumbers n) (g .follows h);
@@ -113,7 +110,7 @@ module _ (line : List ℕ) (ip port : ℕ) (d n c e m : List ℕ) where
   unfolding readLine
   too-long h = no-call _ (λ q. let z : _≡_ {A = ℕ} 0 1 = cc in omega arith) (sym (pick-t _ _ _ (lt-ltb _ _ h)))
 
-  module _ (h : length line ≤ longest) (s : List ℕ) (q : s ≡ take (run (other 35) line) line) (a z : ℕ) (w : WordAt s 0 a z) where
+  module _ (h : length line ≤ longest) (s : List ℕ) (q : s ≡ textOf line) (a z : ℕ) (w : WordAt s 0 a z) where
     by-words : readWords (words s) ≡ readLine line
     unfolding readLine
     by-words = ap (λ (x : List ℕ). readWords (words x)) q ∙ sym (pick-f _ _ _ (le-ltb _ _ h))
@@ -126,21 +123,21 @@ module _ (line : List ℕ) (ip port : ℕ) (d n c e m : List ℕ) where
       first : words s ≡ part s a z ∷ words (drop z s)
       first = one-word s 0 a z w f
 
-      pub opens : name ≡ 11 → Line line ip port d n Read.Open c e m
+      pub opens : name ≡ openName → Line line ip port d n Read.Open c e m
       unfolding readWords
       opens b = no-call _ (λ q. let z : _≡_ {A = ℕ} 0 1 = cc in omega arith) (sym (pick-t _ _ _ (eq-eqb _ _ (sym k ∙ b))) ∙ ap readWords (sym first) ∙ by-words)
 
-      pub not-a-call : 11 < name → Line line ip port d n (Read.Unread Expected.Call) c e m
+      pub not-a-call : nameCount ≤ name → Line line ip port d n (Read.Unread Expected.Call) c e m
       unfolding readWords
       not-a-call b =
           no-call _ (λ q. let z : _≡_ {A = ℕ} 0 1 = cc in omega arith)
-          (sym (pick-f _ _ _ (ne-eqb (place (part s a z) names) 11 (λ v. omega arith)) ∙ pick-t _ _ _ (lt-ltb 11 (place (part s a z) names) (omega arith)))
+          (sym (pick-f _ _ _ (ne-eqb (place (part s a z) names) openName (λ v. omega arith)) ∙ pick-t _ _ _ (le-leb nameCount (place (part s a z) names) (omega arith)))
           ∙ ap readWords (sym first)
           ∙ by-words)
 
-      pub called : name < 11 → (r : Read) → Named name ip port d n (words (drop z s)) r c e m → Line line ip port d n r c e m
+      pub called : (name ≡ openName → ⊥) → name < nameCount → (r : Read) → Named name ip port d n (words (drop z s)) r c e m → Line line ip port d n r c e m
       unfolding readWords
-      called b r v =
+      called o b r v =
           let ws : wordsOf line ≡ part s a z ∷ words (drop z s) = ap words (sym q) ∙ first in
           let x : name ≡ nameOf (wordsOf line) = k ∙ ap nameOf (sym ws) in
           let y : words (drop z s) ≡ after (wordsOf line) = ap after (sym ws) in
@@ -148,7 +145,7 @@ module _ (line : List ℕ) (ip port : ℕ) (d n c e m : List ℕ) where
             told =
                 v .told
                 ∙ ap (λ (i : ℕ). readNamed i (words (drop z s))) k
-                ∙ sym (pick-f _ _ _ (ne-eqb (place (part s a z) names) 11 (λ v. omega arith)) ∙ pick-f _ _ _ (le-ltb 11 (place (part s a z) names) (omega arith)))
+                ∙ sym (pick-f _ _ _ (ne-eqb (place (part s a z) names) openName (λ v. o (k ∙ v))) ∙ pick-f _ _ _ (lt-leb nameCount (place (part s a z) names) (omega arith)))
                 ∙ ap readWords (sym first)
                 ∙ by-words;
             call = λ t. v .call t ∙ ap (λ (i : ℕ). callOf i ip port (valuesOf i (words (drop z s)))) x ∙ ap (λ (i : List (List ℕ)). callOf (nameOf (wordsOf line)) ip port (valuesOf (nameOf (wordsOf line)) i)) y;

@@ -10,7 +10,8 @@ use lib.Seq.{drop-cons}
 use Rattle.text.specs.Split.{words, part, WordAt}
 use Rattle.text.specs.declared.Spelt.the-variants.{Number, Nothing}
 use Rattle.text.proofs.Splits.{no-word, one-word}
-use Rattle.lines.specs.Argument.{argument, octetsAs, unread, argumentValues, argumentOctets, argumentsRest, Arguments}
+use Rattle.lines.specs.Key.{wordsAt}
+use Rattle.lines.specs.Argument.{allRead, argument, octetsAs, unread, argumentValues, argumentOctets, argumentsRest, Arguments}
 use Rattle.values.proofs.Values.{given-no, given-yes}
 
 -- the first j words of the form are read, and have left m and n
@@ -20,7 +21,7 @@ pub record Filling (ts s l d : List ℕ) (start at j : ℕ) (m n : List ℕ) : T
   pub as-long : length m ≡ length l
   pub as-many : length n ≡ length d
   pub told : unread (drop j ts) (words (drop at s)) ≡ unread ts (words (drop start s))
-  pub values : argumentValues (36 + j) (drop j ts) (words (drop at s)) m ≡ argumentValues 36 ts (words (drop start s)) l
+  pub values : argumentValues (wordsAt + j) (drop j ts) (words (drop at s)) m ≡ argumentValues wordsAt ts (words (drop start s)) l
   pub octets : argumentOctets (drop j ts) (words (drop at s)) n ≡ argumentOctets ts (words (drop start s)) d
   pub follows : drop (length ts - j) (words (drop at s)) ≡ drop (length ts) (words (drop start s))
   pub rest : argumentsRest (drop j ts) (words (drop at s)) ≡ argumentsRest ts (words (drop start s))
@@ -40,7 +41,7 @@ filling ts s l d start h =
     }
 
 module _ (ts s l d : List ℕ) (start at j : ℕ) (m n : List ℕ) (i : Filling ts s l d start at j m n) where
-  pub filled : length ts ≤ j → Arguments ts s l d (words (drop start s)) 6 at m n
+  pub filled : length ts ≤ j → Arguments ts s l d (words (drop start s)) allRead at m n
   unfolding unread argumentValues argumentOctets argumentsRest
   filled h =
       let z = drop-of-length-le ts {i = j} h in
@@ -48,7 +49,7 @@ module _ (ts s l d : List ℕ) (start at j : ℕ) (m n : List ℕ) (i : Filling 
       record {
         told = sym (ap (λ (x : List ℕ). unread x (words (drop at s))) z) ∙ i .told;
         within = i .within;
-        values = λ t. sym (ap (λ (x : List ℕ). argumentValues (36 + j) x (words (drop at s)) m) z) ∙ i .values;
+        values = λ t. sym (ap (λ (x : List ℕ). argumentValues (wordsAt + j) x (words (drop at s)) m) z) ∙ i .values;
         octets = λ t. sym (ap (λ (x : List ℕ). argumentOctets x (words (drop at s)) n) z) ∙ i .octets;
         follows = λ t. sym (ap (λ (x : ℕ). drop x (words (drop at s))) k) ∙ i .follows;
         rest = sym (ap (λ (x : List ℕ). argumentsRest x (words (drop at s))) z) ∙ i .rest;
@@ -94,25 +95,25 @@ module _ (ts s l d : List ℕ) (start at j : ℕ) (m n : List ℕ) (i : Filling 
       unfolding unread argumentsRest
       not-read p r = unread-here m p (sym (given-no _ _ _ r) ∙ told-next) (one-word s at a e w z ∙ sym (given-no _ _ _ r) ∙ rest-next)
 
-      pub read-on : (v : ℕ) (p : List ℕ) → argument t (part s a e) ≡ Number v → p ≡ octetsAs t (part s a e) n → length p ≡ length n → Filling ts s l d start e (j + 1) (set m (36 + j) v) p
+      pub read-on : (v : ℕ) (p : List ℕ) → argument t (part s a e) ≡ Number v → p ≡ octetsAs t (part s a e) n → length p ≡ length n → Filling ts s l d start e (j + 1) (set m (wordsAt + j) v) p
       unfolding unread argumentValues argumentOctets argumentsRest
       read-on v p r q y =
           let o = one-word s at a e w z in
           let up : drop (j + 1) ts ≡ drop (suc j) ts = ap (λ (f : ℕ). drop f ts) (add-one j) in
-          let f : 36 + (j + 1) ≡ 36 + j + 1 = omega arith in
+          let f : wordsAt + (j + 1) ≡ wordsAt + j + 1 = omega arith in
           let g : length ts - j ≡ suc (length ts - (j + 1)) = omega arith in
           record {
             within = w .within;
             most = omega arith;
-            as-long = length-set m (36 + j) v ∙ i .as-long;
+            as-long = length-set m (wordsAt + j) v ∙ i .as-long;
             as-many = y ∙ i .as-many;
             told = ap (λ (f : List ℕ). unread f (words (drop e s))) up ∙ sym (given-yes _ _ _ v r) ∙ told-next;
             values =
-                ap (λ (c : List ℕ). argumentValues (36 + (j + 1)) c (words (drop e s)) (set m (36 + j) v)) up
-                ∙ ap (λ (c : ℕ). argumentValues c (drop (suc j) ts) (words (drop e s)) (set m (36 + j) v)) f
-                ∙ ap (λ (c : ℕ). argumentValues (36 + j + 1) (drop (suc j) ts) (words (drop e s)) (set m (36 + j) c)) (sym (given-yes _ (λ (c : ℕ). c) 0 v r))
-                ∙ ap (λ (c : List ℕ). argumentValues (36 + j) c (part s a e ∷ words (drop e s)) m) (sym next)
-                ∙ ap (λ (c : List (List ℕ)). argumentValues (36 + j) (drop j ts) c m) (sym o)
+                ap (λ (c : List ℕ). argumentValues (wordsAt + (j + 1)) c (words (drop e s)) (set m (wordsAt + j) v)) up
+                ∙ ap (λ (c : ℕ). argumentValues c (drop (suc j) ts) (words (drop e s)) (set m (wordsAt + j) v)) f
+                ∙ ap (λ (c : ℕ). argumentValues (wordsAt + j + 1) (drop (suc j) ts) (words (drop e s)) (set m (wordsAt + j) c)) (sym (given-yes _ (λ (c : ℕ). c) 0 v r))
+                ∙ ap (λ (c : List ℕ). argumentValues (wordsAt + j) c (part s a e ∷ words (drop e s)) m) (sym next)
+                ∙ ap (λ (c : List (List ℕ)). argumentValues (wordsAt + j) (drop j ts) c m) (sym o)
                 ∙ i .values;
             octets =
                 ap (λ (c : List ℕ). argumentOctets c (words (drop e s)) p) up

@@ -1,4 +1,5 @@
 -- The laws of `lines`, for its own proofs: a file imports only what stands above it here.
+pub mod Names
 pub mod Options
 pub mod Forms
 pub mod Fillings

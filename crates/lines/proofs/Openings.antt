@@ -8,9 +8,8 @@ use borrow.Author.Tests.{lt-ltb, le-ltb, eq-eqb, ne-eqb}
 use lib.Dec.{T}
 use lib.Ieee.{Float, nan, inf, fin, binary64, ofInt, ofBits, toBits, isNan, nanBits, div, round}
 use lib.Ieee.Bits.{nanBits-is, nanBits-above}
-use lib.ListN.{length, take, drop}
+use lib.ListN.{length, drop}
 use Rattle.base.proofs.Picks.{pick-t, pick-f}
-use Rattle.text.specs.Run.{run, other}
 use Rattle.text.specs.Name.{place}
 use Rattle.text.specs.Split.{words, part, WordAt}
 use Rattle.text.proofs.Splits.{no-word, one-word}
@@ -19,9 +18,10 @@ use Rattle.lines.specs.declared.Read.the-variants as Read
 use Rattle.lines.specs.declared.Opening.{Opening}
 use Rattle.lines.specs.declared.option.Took.{Took}
 use Rattle.lines.specs.declared.option.Took.the-variants.{Taken, Unknown, Unreadable}
-use Rattle.lines.specs.Argument.{names}
+use Rattle.lines.specs.Key.{atKey, settings, keyCount, unsaid}
+use Rattle.lines.specs.Name.{names, openName, textOf}
 use Rattle.lines.specs.Option.{optionsTook, optionsValues, Ran}
-use Rattle.lines.specs.Call.{unsaid, longest, orElse}
+use Rattle.lines.specs.Call.{longest, orElse}
 use Rattle.lines.specs.Open.{bitsOf, settingsOf, Within, unreadOpening, opened, openedBy, openWords, openingOf}
 use Rattle.lines.proofs.Bounds.{held-unsaid, held-options}
 
@@ -54,10 +54,10 @@ centre-bits = refl
 
 -- ---- the words after `open`
 
-module _ (l n : List ℕ) (ws : List (List ℕ)) (u : l ≡ unsaid) (q : Took) (m e : List ℕ) (o : Ran 0 13 l n ws q m e) where
+module _ (l n : List ℕ) (ws : List (List ℕ)) (u : l ≡ unsaid) (q : Took) (m e : List ℕ) (o : Ran settings keyCount l n ws q m e) where
   by : opened q (optionsValues unsaid ws) ≡ openedBy ws
   unfolding openedBy
-  by = ap (λ (x : Took). opened x (optionsValues unsaid ws)) (o .told ∙ ap (λ (x : List ℕ). optionsTook 0 13 x ws) u)
+  by = ap (λ (x : Took). opened x (optionsValues unsaid ws)) (o .told ∙ ap (λ (x : List ℕ). optionsTook settings keyCount x ws) u)
 
   pub not-a-setting : q ≡ Unknown → unreadOpening Expected.Setting ≡ openedBy ws
   unfolding opened
@@ -71,14 +71,14 @@ module _ (l n : List ℕ) (ws : List (List ℕ)) (u : l ≡ unsaid) (q : Took) (
     values-then : m ≡ optionsValues unsaid ws
     values-then = o .values t ∙ ap (λ (x : List ℕ). optionsValues x ws) u
 
-    pub all-said : _≡_ {A = Opening} (record { read = Read.Open; at = orElse m 0 0; settings = settingsOf m }) (openedBy ws)
+    pub all-said : _≡_ {A = Opening} (record { read = Read.Open; at = orElse m atKey 0; settings = settingsOf m }) (openedBy ws)
     unfolding opened
     all-said = ap (opened Taken) values-then ∙ (rw t at by)
 
     pub within : Within m
     within =
-        let a : optionsTook 0 13 unsaid ws ≡ Taken = ap (λ (x : List ℕ). optionsTook 0 13 x ws) (sym u) ∙ sym (o .told) ∙ t in
-        (rw (sym values-then) at (held-options 0 0 13 ws unsaid (omega arith) a (held-unsaid 0))) .options
+        let a : optionsTook settings keyCount unsaid ws ≡ Taken = ap (λ (x : List ℕ). optionsTook settings keyCount x ws) (sym u) ∙ sym (o .told) ∙ t in
+        (rw (sym values-then) at (held-options 0 settings keyCount ws unsaid (omega arith) a (held-unsaid 0))) .options
 
 -- ---- a line
 
@@ -87,7 +87,7 @@ module _ (line : List ℕ) where
   unfolding openingOf
   too-long h = sym (pick-t _ _ _ (lt-ltb _ _ h))
 
-  module _ (h : length line ≤ longest) (s : List ℕ) (q : s ≡ take (run (other 35) line) line) (a z : ℕ) (w : WordAt s 0 a z) where
+  module _ (h : length line ≤ longest) (s : List ℕ) (q : s ≡ textOf line) (a z : ℕ) (w : WordAt s 0 a z) where
     by-words : openWords (words s) ≡ openingOf line
     unfolding openingOf
     by-words = ap (λ (x : List ℕ). openWords (words x)) q ∙ sym (pick-f _ _ _ (le-ltb _ _ h))
@@ -97,10 +97,10 @@ module _ (line : List ℕ) where
     no-words f = ap openWords (sym (no-word s 0 a z w f)) ∙ by-words
 
     module _ (f : a ≡ z → ⊥) (name : ℕ) (k : name ≡ place (part s a z) names) where
-      pub not-open : (name ≡ 11 → ⊥) → unreadOpening Expected.Open ≡ openingOf line
+      pub not-open : (name ≡ openName → ⊥) → unreadOpening Expected.Open ≡ openingOf line
       unfolding openWords
       not-open b = sym (pick-f _ _ _ (ne-eqb _ _ (λ e. b (k ∙ e)))) ∙ ap openWords (sym (one-word s 0 a z w f)) ∙ by-words
 
-      pub is-open : name ≡ 11 → openedBy (words (drop z s)) ≡ openingOf line
+      pub is-open : name ≡ openName → openedBy (words (drop z s)) ≡ openingOf line
       unfolding openWords
       is-open b = sym (pick-t _ _ _ (eq-eqb _ _ (sym k ∙ b))) ∙ ap openWords (sym (one-word s 0 a z w f)) ∙ by-words

@@ -8,23 +8,14 @@ use mathlib.Core.Bool.{false}
 use lib.Dec.{eqb}
 use lib.ListN.{length, drop, getD, set}
 use Rattle.base.proofs.Picks.{pick-t, pick-f}
-use Rattle.text.specs.Name.{ascii, named}
-use Rattle.text.specs.Split.{parts, notEmpty, blank, grown, words, part, WordAt}
+use Rattle.text.specs.Split.{words, part, WordAt}
 use Rattle.text.specs.declared.Spelt.the-variants.{Number, Nothing}
 use Rattle.text.proofs.Splits.{no-word, one-word}
 use Rattle.lines.specs.declared.option.Took.{Took}
 use Rattle.lines.specs.declared.option.Took.the-variants.{Taken, Unknown, Unreadable}
-use Rattle.lines.specs.Option as Option
+use Rattle.lines.specs.Key.{keysAt, marks}
 use Rattle.lines.specs.Option.{keyAt, valueAt, equalsIn, tookKey, valuesKey, took, valuesAfter, numbersAfter, valueOf, numbersFor, Stepped, andThen, optionsTook, optionsValues, optionsNumbers, stopped, optionsRest, Ran, Stopped}
 use Rattle.values.proofs.Values.{given-no, given-yes}
-
-pub key-names : words (ascii "at receivers centres rate centre port radio board attenuation soft hard window malformed buffer waiting length bits samples") ≡ Option.keys
-unfolding words parts notEmpty blank grown
-key-names = refl
-
-pub attenuation-names : words (ascii "off on unsaid") ≡ named ("off" ∷ "on" ∷ "unsaid" ∷ [])
-unfolding words parts notEmpty blank grown
-attenuation-names = refl
 
 -- a number that is i is not j
 pub differs : {n : ℕ} (i j : ℕ) → eqb i j ≡ false → n ≡ i → eqb n j ≡ false
@@ -64,11 +55,11 @@ module _ (from to : ℕ) (l d w m n : List ℕ) where
         key-above a = unknown (sym (pick-f _ _ _ (le-ltb _ _ b) ∙ pick-t _ _ _ (le-leb _ _ a)) ∙ by-key)
 
         module _ (a : key < to) where
-          pub said-before : getD l (18 + key) 0 ≡ 1 → Stepped from to l d w Unknown m n
+          pub said-before : getD l (marks + key) 0 ≡ 1 → Stepped from to l d w Unknown m n
           unfolding tookKey
           said-before s = unknown (sym (pick-f _ _ _ (le-ltb _ _ b) ∙ pick-f _ _ _ (lt-leb _ _ a) ∙ pick-t _ _ _ (eq-eqb _ _ s)) ∙ by-key)
 
-          module _ (s : getD l (18 + key) 0 ≡ 1 → ⊥) where
+          module _ (s : getD l (marks + key) 0 ≡ 1 → ⊥) where
             pub unread-value : valueOf key (valueAt equals w) ≡ Nothing → Stepped from to l d w (Unreadable key) m n
             unfolding tookKey
             unread-value r =
@@ -78,7 +69,7 @@ module _ (from to : ℕ) (l d w m n : List ℕ) where
                   numbers = λ t. let z : _≡_ {A = ℕ} 0 1 = cc in absurd (omega arith);
                 }
 
-            pub taken : (v : ℕ) → valueOf key (valueAt equals w) ≡ Number v → m ≡ set (set l key v) (18 + key) 1 → n ≡ numbersFor key (valueAt equals w) d
+            pub taken : (v : ℕ) → valueOf key (valueAt equals w) ≡ Number v → m ≡ set (set l (keysAt + key) v) (marks + key) 1 → n ≡ numbersFor key (valueAt equals w) d
                 → Stepped from to l d w Taken m n
             unfolding tookKey valuesAfter valuesKey numbersAfter
             taken v r f g =
@@ -86,7 +77,7 @@ module _ (from to : ℕ) (l d w m n : List ℕ) where
                   told = sym (pick-f _ _ _ (le-ltb _ _ b) ∙ pick-f _ _ _ (lt-leb _ _ a) ∙ pick-f _ _ _ (ne-eqb _ _ s) ∙ given-yes _ _ _ v r) ∙ by-key;
                   values =
                       λ t. f
-                      ∙ ap (λ (x : ℕ). set (set l key x) (18 + key) 1) (sym (given-yes _ (λ (x : ℕ). x) 0 v r))
+                      ∙ ap (λ (x : ℕ). set (set l (keysAt + key) x) (marks + key) 1) (sym (given-yes _ (λ (x : ℕ). x) 0 v r))
                       ∙ ap (λ (j : ℕ). valuesKey j (valueAt equals w) l) k
                       ∙ ap (λ (j : ℕ). valuesKey (keyAt j w) (valueAt j w) l) e;
                   numbers =

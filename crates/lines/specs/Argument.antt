@@ -6,40 +6,41 @@ use lib.Dec.{eqb}
 use lib.ListN.{length, drop, getD, set}
 use Rattle.base.specs.Pick.{pick}
 use Rattle.octets.specs.Written.{written}
-use Rattle.text.specs.Name.{named}
 use Rattle.text.specs.Number.{digitsOf}
 use Rattle.text.specs.Split.{words}
 use Rattle.text.specs.declared.Spelt.{Spelt}
+use Rattle.lines.specs.Key.{wordsAt, mostOctets}
 use Rattle.values.specs.Value.{given, upTo, reading, sender}
 use Rattle.values.specs.Octets.{octetsOf, octetCount}
 
--- a call is its place here
-abbrev pub names : List (List ℕ)
-names =
-    named
-    ("begin"
-    ∷ "pass"
-    ∷ "iq"
-    ∷ "status"
-    ∷ "datagram"
-    ∷ "take"
-    ∷ "close"
-    ∷ "missing"
-    ∷ "discontinuity"
-    ∷ "stalled"
-    ∷ "state"
-    ∷ "open"
-    ∷ [])
+-- what a word is
+abbrev pub readingWord : ℕ
+readingWord = 0
 
--- a word is 0 a reading, 1 a number of a datagram, 2 an octet, 3 a number of places, 4 an address and a port, 5 octets in hexadecimal
+abbrev pub numberWord : ℕ
+numberWord = 1
+
+abbrev pub octetWord : ℕ
+octetWord = 2
+
+abbrev pub placesWord : ℕ
+placesWord = 3
+
+abbrev pub senderWord : ℕ
+senderWord = 4
+
+abbrev pub octetsWord : ℕ
+octetsWord = 5
+
+-- by name
 abbrev pub forms : List (List ℕ)
 forms =
-    (0 ∷ [])
-    ∷ (0 ∷ [])
-    ∷ (0 ∷ 0 ∷ 1 ∷ [])
-    ∷ (0 ∷ 0 ∷ 2 ∷ [])
-    ∷ (0 ∷ 0 ∷ 4 ∷ 5 ∷ [])
-    ∷ (0 ∷ 3 ∷ [])
+    (readingWord ∷ [])
+    ∷ (readingWord ∷ [])
+    ∷ (readingWord ∷ readingWord ∷ numberWord ∷ [])
+    ∷ (readingWord ∷ readingWord ∷ octetWord ∷ [])
+    ∷ (readingWord ∷ readingWord ∷ senderWord ∷ octetsWord ∷ [])
+    ∷ (readingWord ∷ placesWord ∷ [])
     ∷ []
     ∷ []
     ∷ []
@@ -51,15 +52,15 @@ forms =
 abbrev pub form : ℕ → List ℕ
 form name = getD forms name []
 
--- the most that each can be
+-- the most that each can be, a sender by its address and port as one number, octets by how many they are
 abbrev pub most : List ℕ
-most = 18446744073709551615 ∷ 4294967295 ∷ 255 ∷ 1024 ∷ 281474976776191 ∷ 2048 ∷ []
+most = 18446744073709551615 ∷ 4294967295 ∷ 255 ∷ 1024 ∷ 281474976776191 ∷ mostOctets ∷ []
 
 unfoldable pub argumentAs : ℕ → List ℕ → Spelt
 argumentAs t w =
-    pick (eqb t 0) (reading w)
-    (pick (eqb t 4) (sender w)
-    (pick (eqb t 5) (octetCount w)
+    pick (eqb t readingWord) (reading w)
+    (pick (eqb t senderWord) (sender w)
+    (pick (eqb t octetsWord) (octetCount w)
     (digitsOf 10 w)))
 
 unfoldable pub argument : ℕ → List ℕ → Spelt
@@ -67,13 +68,17 @@ argument t w = upTo (getD most t 0) (argumentAs t w)
 
 -- the lent octets after it was read
 unfoldable pub octetsAs : ℕ → List ℕ → List ℕ → List ℕ
-octetsAs t w d = pick (eqb t 5) (written d 0 (octetsOf w)) d
+octetsAs t w d = pick (eqb t octetsWord) (written d 0 (octetsOf w)) d
 
 -- ---- the words of a form, in order
 
--- which is the first that isn't there or can't be read; 6 where there is none
+-- no word is left unread
+abbrev pub allRead : ℕ
+allRead = 6
+
+-- which is the first that isn't there or can't be read
 unfoldable pub unread : List ℕ → List (List ℕ) → ℕ
-unread [] ws = 6
+unread [] ws = allRead
 unread (t ∷ ts) [] = t
 unread (t ∷ ts) (w ∷ ws) = given (argument t w) (λ n. unread ts ws) t
 
@@ -98,7 +103,7 @@ argumentsRest (t ∷ ts) (w ∷ ws) = given (argument t w) (λ n. argumentsRest 
 pub record Arguments (ts : List ℕ) (s l d : List ℕ) (ws : List (List ℕ)) (r at : ℕ) (m e : List ℕ) : Type 0 where
   pub told : r ≡ unread ts ws
   pub within : at ≤ length s
-  pub values : r ≡ 6 → m ≡ argumentValues 36 ts ws l
-  pub octets : r ≡ 6 → e ≡ argumentOctets ts ws d
-  pub follows : r ≡ 6 → words (drop at s) ≡ drop (length ts) ws
+  pub values : r ≡ allRead → m ≡ argumentValues wordsAt ts ws l
+  pub octets : r ≡ allRead → e ≡ argumentOctets ts ws d
+  pub follows : r ≡ allRead → words (drop at s) ≡ drop (length ts) ws
   pub rest : words (drop at s) ≡ argumentsRest ts ws

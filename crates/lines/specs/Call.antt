@@ -2,11 +2,10 @@
 use Prim.Native.Nat.{ℕ, _+_, _/_, _%_, _≤_, _<_}
 use mathlib.Core.Path.{_≡_}
 use mathlib.Core.List.{List, [], _∷_}
-use lib.Dec.{ltb, eqb}
-use lib.ListN.{length, take, drop, getD, replicate}
+use lib.Dec.{ltb, leb, eqb}
+use lib.ListN.{length, drop, getD}
 use Rattle.base.specs.Pick.{pick}
 use Rattle.octets.specs.Written.{written}
-use Rattle.text.specs.Run.{run, other}
 use Rattle.text.specs.Name.{place}
 use Rattle.text.specs.Split.{words}
 use Rattle.lines.specs.declared.Expected.{Expected}
@@ -15,7 +14,9 @@ use Rattle.lines.specs.declared.Read.{Read}
 use Rattle.lines.specs.declared.Read.the-variants as Read
 use Rattle.lines.specs.declared.option.Took.{Took}
 use Rattle.lines.specs.declared.option.Took.the-variants.{Taken, Unknown, Unreadable}
-use Rattle.lines.specs.Argument.{names, form, unread, argumentValues, argumentOctets}
+use Rattle.lines.specs.Key.{bufferKey, waitingKey, lengthKey, bitsKey, samplesKey, wordsAt, firstWord, secondWord, thirdWord, fourthWord, keysAt, unsaid, mostOctets, mostNumbers}
+use Rattle.lines.specs.Name.{names, iqName, statusName, datagramName, takeName, stateName, openName, nameCount, ends, kinds, buffers, textOf}
+use Rattle.lines.specs.Argument.{readingWord, numberWord, octetWord, placesWord, senderWord, form, allRead, unread, argumentValues, argumentOctets}
 use Rattle.lines.specs.Option.{said, optionsTook, optionsValues, optionsNumbers}
 use Rattle.values.specs.Datagram.{iqOctets, statusOctets}
 
@@ -23,11 +24,11 @@ use Rattle.values.specs.Datagram.{iqOctets, statusOctets}
 
 unfoldable pub expectedWord : ℕ → Expected
 expectedWord t =
-    pick (eqb t 0) Expected.Reading
-    (pick (eqb t 1) Expected.DatagramNumber
-    (pick (eqb t 2) Expected.Octet
-    (pick (eqb t 3) Expected.Places
-    (pick (eqb t 4) Expected.Sender
+    pick (eqb t readingWord) Expected.Reading
+    (pick (eqb t numberWord) Expected.DatagramNumber
+    (pick (eqb t octetWord) Expected.Octet
+    (pick (eqb t placesWord) Expected.Places
+    (pick (eqb t senderWord) Expected.Sender
     Expected.Octets))))
 
 -- a run of options, where an unknown word is answered by e
@@ -36,37 +37,29 @@ optioned Taken e r = r
 optioned Unknown e r = Read.Unread e
 optioned (Unreadable k) e r = Read.Unread (Expected.ValueOf k)
 
--- a call has the keys from 13 on, up to its own here
-abbrev pub ends : List ℕ
-ends = 13 ∷ 14 ∷ 18 ∷ 15 ∷ 15 ∷ 13 ∷ 14 ∷ 13 ∷ 13 ∷ 13 ∷ 13 ∷ 13 ∷ []
-
--- no value is said yet
-abbrev pub unsaid : List ℕ
-unsaid = replicate 40 0
-
 abbrev pub argumentsOf : ℕ → List (List ℕ) → List ℕ
-argumentsOf name ws = argumentValues 36 (form name) ws unsaid
+argumentsOf name ws = argumentValues wordsAt (form name) ws unsaid
 
 abbrev pub optionsOf : ℕ → List (List ℕ) → List (List ℕ)
 optionsOf name ws = drop (length (form name)) ws
 
 unfoldable pub readNamed : ℕ → List (List ℕ) → Read
 readNamed name ws =
-    pick (eqb (unread (form name) ws) 6)
-    (optioned (optionsTook 13 (getD ends name 0) (argumentsOf name ws) (optionsOf name ws)) Expected.End
-    (pick (eqb name 10) Read.State Read.Call))
+    pick (eqb (unread (form name) ws) allRead)
+    (optioned (optionsTook bufferKey (getD ends name 0) (argumentsOf name ws) (optionsOf name ws)) Expected.End
+    (pick (eqb name stateName) Read.State Read.Call))
     (Read.Unread (expectedWord (unread (form name) ws)))
 
 unfoldable pub readWords : List (List ℕ) → Read
 readWords [] = Read.Nothing
 readWords (w ∷ ws) =
-    pick (eqb (place w names) 11) Read.Open
-    (pick (ltb 11 (place w names)) (Read.Unread Expected.Call)
+    pick (eqb (place w names) openName) Read.Open
+    (pick (leb nameCount (place w names)) (Read.Unread Expected.Call)
     (readNamed (place w names) ws))
 
 -- without its comment
 abbrev pub wordsOf : List ℕ → List (List ℕ)
-wordsOf line = words (take (run (other 35) line) line)
+wordsOf line = words (textOf line)
 
 -- the most octets of a line: 8193 waiting numbers of ten digits and a comma fit
 abbrev pub longest : ℕ
@@ -77,72 +70,65 @@ readLine line = pick (ltb longest (length line)) (Read.Unread Expected.ShorterLi
 
 -- ---- what its call gives
 
--- the values of a call's words: place k that of key k, places 36 and on those of its form
+-- the values of a call's words
 unfoldable pub valuesOf : ℕ → List (List ℕ) → List ℕ
 valuesOf name ws = optionsValues (argumentsOf name ws) (optionsOf name ws)
 
 -- a key's value, or what it is where it is left out
 unfoldable pub orElse : List ℕ → ℕ → ℕ → ℕ
-orElse l key other = pick (said l key) (getD l key 0) other
-
-abbrev pub kinds : List ℕ
-kinds = 0 ∷ 1 ∷ 2 ∷ 2 ∷ 2 ∷ 3 ∷ 4 ∷ 5 ∷ 6 ∷ 7 ∷ 0 ∷ 0 ∷ []
-
--- the packet buffer that a call needs
-abbrev pub buffers : List ℕ
-buffers = 0 ∷ 4452 ∷ 1444 ∷ 1444 ∷ 1444 ∷ 0 ∷ 2888 ∷ 0 ∷ 0 ∷ 0 ∷ 0 ∷ 0 ∷ []
+orElse l key other = pick (said l key) (getD l (keysAt + key) 0) other
 
 unfoldable pub laterOf : ℕ → List ℕ → ℕ
-laterOf name l = pick (eqb name 5) 0 (getD l 37 0)
+laterOf name l = pick (eqb name takeName) 0 (getD l secondWord 0)
 
 unfoldable pub addressOf : ℕ → ℕ → List ℕ → ℕ
-addressOf name ip l = pick (eqb name 4) (getD l 38 0 / 65536) (pick (eqb name 2) ip (pick (eqb name 3) ip 0))
+addressOf name ip l = pick (eqb name datagramName) (getD l thirdWord 0 / 65536) (pick (eqb name iqName) ip (pick (eqb name statusName) ip 0))
 
 unfoldable pub portOf : ℕ → ℕ → List ℕ → ℕ
 portOf name port l =
-    pick (eqb name 4) (getD l 38 0 % 65536)
-    (pick (eqb name 2) ((port + 11) % 65536)
-    (pick (eqb name 3) ((port + 1) % 65536)
+    pick (eqb name datagramName) (getD l thirdWord 0 % 65536)
+    (pick (eqb name iqName) ((port + 11) % 65536)
+    (pick (eqb name statusName) ((port + 1) % 65536)
     0))
 
 unfoldable pub countOf : ℕ → List ℕ → ℕ
-countOf name l = pick (eqb name 2) (orElse l 15 1444) (pick (eqb name 3) 60 (pick (eqb name 4) (getD l 39 0) 0))
+countOf name l = pick (eqb name iqName) (orElse l lengthKey 1444) (pick (eqb name statusName) 60 (pick (eqb name datagramName) (getD l fourthWord 0) 0))
 
 unfoldable pub placesOf : ℕ → List ℕ → ℕ
-placesOf name l = pick (eqb name 5) (getD l 37 0) (orElse l 13 (getD buffers name 0))
+placesOf name l = pick (eqb name takeName) (getD l secondWord 0) (orElse l bufferKey (getD buffers name 0))
 
 -- the call as eight numbers: kind, reading, later reading, the sender's address and port, octets, waiting numbers, places
 unfoldable pub callOf : ℕ → ℕ → ℕ → List ℕ → List ℕ
 callOf name ip port l =
     getD kinds name 0
-    ∷ getD l 36 0
+    ∷ getD l firstWord 0
     ∷ laterOf name l
     ∷ addressOf name ip l
     ∷ portOf name port l
     ∷ countOf name l
-    ∷ getD l 14 0
+    ∷ getD l (keysAt + waitingKey) 0
     ∷ placesOf name l
     ∷ []
 
 -- the lent octets after it: those of `datagram` are written as they are read
 unfoldable pub octetsOf : ℕ → List ℕ → List ℕ → List ℕ
 octetsOf name l d =
-    pick (eqb name 2) (written d 0 (iqOctets (getD l 38 0) (orElse l 16 24) (orElse l 17 238)))
-    (pick (eqb name 3) (written d 0 (statusOctets (getD l 38 0)))
+    pick (eqb name iqName) (written d 0 (iqOctets (getD l thirdWord 0) (orElse l bitsKey 24) (orElse l samplesKey 238)))
+    (pick (eqb name statusName) (written d 0 (statusOctets (getD l thirdWord 0)))
     d)
 
 -- what the octets of a datagram are made from fits their fields
 abbrev pub Small : ℕ → List ℕ → Type 0
 Small name l =
-    (name ≡ 2 → getD l 38 0 < 4294967296) × (name ≡ 3 → getD l 38 0 < 256) × (orElse l 16 24 < 65536) × (orElse l 17 238 < 65536)
+    (name ≡ iqName → getD l thirdWord 0 < 4294967296) × (name ≡ statusName → getD l thirdWord 0 < 256) × (orElse l bitsKey 24 < 65536) × (orElse l samplesKey 238 < 65536)
 
 -- what a caller can go by: the kind, the address, the port, and lengths within the lent buffers
 pub record Fit (c : List ℕ) : Type 0 where
   pub kind : getD c 0 0 ≤ 7
   pub address : getD c 3 0 ≤ 4294967296
   pub port : getD c 4 0 < 65536
-  pub octets : getD c 5 0 ≤ 2048
-  pub waiting : getD c 6 0 ≤ 8193
+  pub octets : getD c 5 0 ≤ mostOctets
+  pub waiting : getD c 6 0 ≤ mostNumbers
   pub places : getD c 7 0 ≤ 8192
 
 -- the words ws of a call's name were read as r, and the lent buffers are then c, e and m

@@ -15,41 +15,64 @@ use Rattle.text.specs.declared.Spelt.{Spelt}
 use Rattle.text.specs.declared.Spelt.the-variants.{Number}
 use Rattle.lines.specs.declared.option.Took.{Took}
 use Rattle.lines.specs.declared.option.Took.the-variants.{Taken, Unknown, Unreadable}
+use Rattle.lines.specs.Key.{keys, keysAt, marks, mostOctets, mostNumbers}
 use Rattle.values.specs.Value.{given, upTo, number, reading, double, ipv4}
 use Rattle.values.specs.Waiting.{waitingCount, waitingNumbers}
 
--- a key is its place here: those of `open`, then those of the calls
-abbrev pub keys : List (List ℕ)
-keys =
-    named
-    ("at"
-    ∷ "receivers"
-    ∷ "centres"
-    ∷ "rate"
-    ∷ "centre"
-    ∷ "port"
-    ∷ "radio"
-    ∷ "board"
-    ∷ "attenuation"
-    ∷ "soft"
-    ∷ "hard"
-    ∷ "window"
-    ∷ "malformed"
-    ∷ "buffer"
-    ∷ "waiting"
-    ∷ "length"
-    ∷ "bits"
-    ∷ "samples"
-    ∷ [])
+-- how a value is spelt
+abbrev pub asNumber : ℕ
+asNumber = 0
 
--- how its value is spelt: 0 a number, 1 a reading, 2 a double, 3 an address, 4 a board, 5 an attenuation, 6 waiting numbers
+abbrev pub asReading : ℕ
+asReading = 1
+
+abbrev pub asDouble : ℕ
+asDouble = 2
+
+abbrev pub asAddress : ℕ
+asAddress = 3
+
+abbrev pub asBoard : ℕ
+asBoard = 4
+
+abbrev pub asAttenuation : ℕ
+asAttenuation = 5
+
+abbrev pub asWaiting : ℕ
+asWaiting = 6
+
+-- by key
 abbrev pub spellings : List ℕ
-spellings = 1 ∷ 0 ∷ 0 ∷ 2 ∷ 2 ∷ 0 ∷ 3 ∷ 4 ∷ 5 ∷ 1 ∷ 1 ∷ 0 ∷ 0 ∷ 0 ∷ 6 ∷ 0 ∷ 0 ∷ 0 ∷ []
+spellings =
+    asNumber
+    ∷ asWaiting
+    ∷ asNumber
+    ∷ asNumber
+    ∷ asNumber
+    ∷ asReading
+    ∷ asNumber
+    ∷ asNumber
+    ∷ asDouble
+    ∷ asDouble
+    ∷ asNumber
+    ∷ asAddress
+    ∷ asBoard
+    ∷ asAttenuation
+    ∷ asReading
+    ∷ asReading
+    ∷ asNumber
+    ∷ asNumber
+    ∷ []
 
 -- the most that it can be: of a board 256 is `skipped`, of an attenuation 0 is off, 1 on and 2 unsaid, of waiting numbers it is how many
 abbrev pub limits : List ℕ
 limits =
-    18446744073709551615
+    8192
+    ∷ mostNumbers
+    ∷ mostOctets
+    ∷ 65535
+    ∷ 65535
+    ∷ 18446744073709551615
     ∷ 65535
     ∷ 65535
     ∷ 18446744073709551615
@@ -62,11 +85,6 @@ limits =
     ∷ 18446744073709551615
     ∷ 18446744073709551615
     ∷ 4294967295
-    ∷ 8192
-    ∷ 8193
-    ∷ 2048
-    ∷ 65535
-    ∷ 65535
     ∷ []
 
 unfoldable pub board : List ℕ → Spelt
@@ -77,12 +95,12 @@ attenuation w = upTo 2 (Number (place w (named ("off" ∷ "on" ∷ "unsaid" ∷ 
 
 unfoldable pub speltAs : ℕ → List ℕ → Spelt
 speltAs how w =
-    pick (eqb how 1) (reading w)
-    (pick (eqb how 2) (double w)
-    (pick (eqb how 3) (ipv4 w)
-    (pick (eqb how 4) (board w)
-    (pick (eqb how 5) (attenuation w)
-    (pick (eqb how 6) (waitingCount w)
+    pick (eqb how asReading) (reading w)
+    (pick (eqb how asDouble) (double w)
+    (pick (eqb how asAddress) (ipv4 w)
+    (pick (eqb how asBoard) (board w)
+    (pick (eqb how asAttenuation) (attenuation w)
+    (pick (eqb how asWaiting) (waitingCount w)
     (digitsOf 10 w))))))
 
 unfoldable pub valueOf : ℕ → List ℕ → Spelt
@@ -90,7 +108,7 @@ valueOf key w = upTo (getD limits key 0) (speltAs (getD spellings key 0) w)
 
 -- the lent numbers after a value was read
 unfoldable pub numbersAs : ℕ → List ℕ → List ℕ → List ℕ
-numbersAs how w d = pick (eqb how 6) (written d 0 (waitingNumbers w)) d
+numbersAs how w d = pick (eqb how asWaiting) (written d 0 (waitingNumbers w)) d
 
 abbrev pub numbersFor : ℕ → List ℕ → List ℕ → List ℕ
 numbersFor key w d = numbersAs (getD spellings key 0) w d
@@ -103,9 +121,8 @@ keyAt equals w = place (take equals w) keys
 abbrev pub valueAt : ℕ → List ℕ → List ℕ
 valueAt equals w = drop (equals + 1) w
 
--- the values that were said: place k is that of key k, and place 18 + k is 1 where it was said
 abbrev pub said : List ℕ → ℕ → Bool
-said l key = eqb (getD l (18 + key) 0) 1
+said l key = eqb (getD l (marks + key) 0) 1
 
 -- what a key and its value come to where the keys from one on, up to another, may be said
 unfoldable pub tookKey : ℕ → List ℕ → ℕ → ℕ → List ℕ → Took
@@ -116,7 +133,7 @@ tookKey key v from to l =
     (given (valueOf key v) (λ n. Taken) (Unreadable key))))
 
 unfoldable pub valuesKey : ℕ → List ℕ → List ℕ → List ℕ
-valuesKey key v l = set (set l key (given (valueOf key v) (λ n. n) 0)) (18 + key) 1
+valuesKey key v l = set (set l (keysAt + key) (given (valueOf key v) (λ n. n) 0)) (marks + key) 1
 
 abbrev pub equalsIn : List ℕ → ℕ
 equalsIn w = run (other 61) w

@@ -5,34 +5,111 @@ ghost use lib.ListN.{length, drop, getD};
 ghost use Rattle.text.specs.Split.{words};
 ghost use Rattle.text.specs.declared.Spelt.the-variants.{Number};
 ghost use Rattle.lines.specs.Argument as Argument;
+ghost use Rattle.lines.specs.Key.{valueCount, mostOctets};
+ghost use Rattle.lines.specs.Name.{nameCount};
+use super::MOST_OCTETS;
+use super::key::WORDS;
+use super::name::NAME_COUNT;
 use text::Spelt;
 use values::address::sender;
 use values::hexadecimal::octets;
 use values::reading::reading;
 use values::reading::up_to;
 
-// How many words a call's form has, and what the first to the fourth are (specs/Argument).
-const COUNTS: [usize; 12] = [1, 1, 3, 3, 4, 2, 0, 0, 0, 0, 0, 0];
+// What a word is.
+pub(crate) const READING: u8 = 0;
 
-const FIRST: [u8; 12] = [0, 0, 0, 0, 0, 0, 0, 0, 0, 0, 0, 0];
+pub(crate) const NUMBER: u8 = 1;
 
-const SECOND: [u8; 12] = [0, 0, 0, 0, 0, 3, 0, 0, 0, 0, 0, 0];
+pub(crate) const OCTET: u8 = 2;
 
-const THIRD: [u8; 12] = [0, 0, 1, 2, 4, 0, 0, 0, 0, 0, 0, 0];
+pub(crate) const PLACES: u8 = 3;
 
-const FOURTH: [u8; 12] = [0, 0, 0, 0, 5, 0, 0, 0, 0, 0, 0, 0];
+pub(crate) const SENDER: u8 = 4;
 
+pub(crate) const OCTETS: u8 = 5;
+
+// No word is left unread.
+pub(crate) const ALL_READ: u8 = 6;
+
+// Where a form has no word.
+const NONE: u8 = 0;
+
+// How many words the form of a name has, and what the first to the fourth are (specs/Argument).
+const COUNTS: [usize; NAME_COUNT] = [1, 1, 3, 3, 4, 2, 0, 0, 0, 0, 0, 0];
+
+const FIRST: [u8; NAME_COUNT] = [
+    READING,
+    READING,
+    READING,
+    READING,
+    READING,
+    READING,
+    NONE,
+    NONE,
+    NONE,
+    NONE,
+    NONE,
+    NONE,
+];
+
+const SECOND: [u8; NAME_COUNT] = [
+    NONE,
+    NONE,
+    READING,
+    READING,
+    READING,
+    PLACES,
+    NONE,
+    NONE,
+    NONE,
+    NONE,
+    NONE,
+    NONE,
+];
+
+const THIRD: [u8; NAME_COUNT] = [
+    NONE,
+    NONE,
+    NUMBER,
+    OCTET,
+    SENDER,
+    NONE,
+    NONE,
+    NONE,
+    NONE,
+    NONE,
+    NONE,
+    NONE,
+];
+
+const FOURTH: [u8; NAME_COUNT] = [
+    NONE,
+    NONE,
+    NONE,
+    NONE,
+    OCTETS,
+    NONE,
+    NONE,
+    NONE,
+    NONE,
+    NONE,
+    NONE,
+    NONE,
+];
+
+// The most that each can be; of a sender, by its address and port as one number.
 const MOST: [u64; 6] = [
-    18446744073709551615,
-    4294967295,
-    255,
+    u64::MAX,
+    u32::MAX as u64,
+    u8::MAX as u64,
     1024,
     281474976776191,
-    2048,
+    MOST_OCTETS as u64,
 ];
 
 fn word_of(name: usize, j: usize) -> u8
-    requires { ⌜ (name < 12) × (j < 4) ⌝ }
+    requires { ⌜ (name < nameCount) × (j < 4) ⌝ }
     ensures { λ r. ⌜ r ≡ getD (Argument.form name) j 0 ⌝ }
 {
     if j == 0 {
@@ -48,23 +125,23 @@ fn word_of(name: usize, j: usize) -> u8
 }
 
 fn argument_as(t: u8, w: &[u8], room: &mut [u8]) -> Spelt
-    requires { ⌜ 2048 ≤ length (now room) ⌝ }
+    requires { ⌜ mostOctets ≤ length (now room) ⌝ }
     ensures { λ r. ⌜ (r ≡ Argument.argumentAs t (now (w .entry))) × ((n : ℕ) → r ≡ Number n → now (room .exit) ≡ Argument.octetsAs t (now (w .entry)) (now (room .entry))) ⌝ }
 {
-    if t == 0 {
+    if t == READING {
         return reading(w);
     }
-    if t == 4 {
+    if t == SENDER {
         return sender(w);
     }
-    if t == 5 {
+    if t == OCTETS {
         return octets(w, room);
     }
     text::digits(w, 10)
 }
 
 fn argument(t: u8, w: &[u8], room: &mut [u8]) -> Spelt
-    requires { ⌜ (t < 6) × (2048 ≤ length (now room)) ⌝ }
+    requires { ⌜ (t < 6) × (mostOctets ≤ length (now room)) ⌝ }
     ensures { λ r. ⌜ (r ≡ Argument.argument t (now (w .entry))) × ((n : ℕ) → r ≡ Number n → now (room .exit) ≡ Argument.octetsAs t (now (w .entry)) (now (room .entry))) ⌝ }
 {
     let most = MOST[t as usize];
@@ -76,7 +153,7 @@ pub(crate) struct Words {
     pub(crate) at: usize,
 }
 
-// The words of s from `start` on, by the form of a name; the values go to places 36 and on.
+// The words of s from `start` on, by the form of a name; the values go to WORDS and on.
 pub(crate) fn arguments(
     s: &[u8],
     start: usize,
@@ -84,7 +161,7 @@ pub(crate) fn arguments(
     values: &mut [u64],
     room: &mut [u8],
 ) -> Words
-    requires { ⌜ (start ≤ length (now s)) × (name < 12) × (40 ≤ length (now values)) × (2048 ≤ length (now room)) ⌝ }
+    requires { ⌜ (start ≤ length (now s)) × (name < nameCount) × (valueCount ≤ length (now values)) × (mostOctets ≤ length (now room)) ⌝ }
     ensures { λ r. ⌜ Argument.Arguments (Argument.form name) (now (s .entry)) (now (values .entry)) (now (room .entry)) (words (drop start (now (s .entry)))) (r .unread) (r .at) (now (values .exit)) (now (room .exit)) ⌝ }
 {
     let count = COUNTS[name];
@@ -101,9 +178,12 @@ pub(crate) fn arguments(
         let Spelt::Number(v) = argument(t, &s[from..end], &mut *room) else {
             return Words { unread: t, at };
         };
-        values[36 + j] = v;
+        values[WORDS + j] = v;
         at = end;
         j += 1;
     }
-    Words { unread: 6, at }
+    Words {
+        unread: ALL_READ,
+        at,
+    }
 }

@@ -8,19 +8,26 @@ use text::Word;
 
 mod argument;
 mod call;
+pub mod key;
+mod name;
 mod open;
-pub mod option;
+mod option;
 mod stops;
 
 // The most octets of a line: a longer one is not read.
 pub const LONGEST: usize = 100000;
+
+// The most octets of a datagram, and the most numbers that wait: 8192, and one that is too many (01's refusal 14).
+pub const MOST_OCTETS: usize = 2048;
+
+pub const MOST_NUMBERS: usize = 8193;
 
 // What was expected, as CALLS.md's Errors has it. Open and FewerStretches are for whoever runs the calls.
 pub enum Expected {
     Call,
     Open,
     Setting,
-    // a value of a key, by its place in option::KEYS
+    // a value of a key, by its place in key::KEYS
     ValueOf(u8),
     Reading,
     DatagramNumber,
@@ -49,12 +56,12 @@ pub fn read_call(
     radio_ip: u32,
     port: u16,
     call: &mut [u64; 8],
-    octets: &mut [u8; 2048],
-    numbers: &mut [u32; 8193],
+    octets: &mut [u8; MOST_OCTETS],
+    numbers: &mut [u32; MOST_NUMBERS],
 ) -> Read
     ensures { λ r. ⌜ Line (now (line .entry)) «radio_ip» port (now (octets .entry)) (now (numbers .entry)) r (now (call .exit)) (now (octets .exit)) (now (numbers .exit)) ⌝ }
 {
-    let mut values = [0u64; 40];
+    let mut values = [0u64; key::VALUES];
     call::read_line(line, radio_ip, port, &mut values, call, octets, numbers)
 }
 
@@ -70,8 +77,8 @@ pub struct Opening {
 pub fn read_open(line: &[u8]) -> Opening
     ensures { λ r. ⌜ r ≡ openingOf (now (line .entry)) ⌝ }
 {
-    let mut values = [0u64; 40];
-    let mut numbers = [0u32; 8193];
+    let mut values = [0u64; key::VALUES];
+    let mut numbers = [0u32; MOST_NUMBERS];
     open::read_settings(line, &mut values, &mut numbers)
 }
 
@@ -79,9 +86,9 @@ pub fn read_open(line: &[u8]) -> Opening
 pub fn found(line: &[u8]) -> Word
     ensures { λ r. ⌜ Stands (now (line .entry)) (foundIn (now (line .entry))) (r .start) (r .end) ⌝ }
 {
-    let mut values = [0u64; 40];
-    let mut octets = [0u8; 2048];
-    let mut numbers = [0u32; 8193];
+    let mut values = [0u64; key::VALUES];
+    let mut octets = [0u8; MOST_OCTETS];
+    let mut numbers = [0u32; MOST_NUMBERS];
     stops::found_in(line, &mut values, &mut octets, &mut numbers)
 }
 
@@ -89,6 +96,9 @@ pub fn found(line: &[u8]) -> Word
 pub fn first_word(line: &[u8]) -> Word
     ensures { λ r. ⌜ Stands (now (line .entry)) (firstIn (now (line .entry))) (r .start) (r .end) ⌝ }
 {
-    let comment = text::find(line, b'#');
-    text::word_at(&line[..comment], 0)
+    let first = name::begins(line);
+    Word {
+        start: first.start,
+        end: first.end,
+    }
 }

@@ -5,14 +5,19 @@ ghost use lib.Ieee.{binary64, ofBits};
 ghost use lib.ListN.{length, drop};
 ghost use Rattle.text.specs.Split.{words};
 ghost use Rattle.tuning.specs.Board.{boardInfo};
-ghost use Rattle.lines.specs.Call.{unsaid};
+ghost use Rattle.lines.specs.Key.{keyCount, valueCount, unsaid, mostNumbers};
 ghost use Rattle.lines.specs.Open as Open;
 use super::Expected;
 use super::LONGEST;
 use super::Opening;
 use super::Read;
-use super::call::NAMES;
 use super::call::or_else;
+use super::key;
+use super::key::KEY_COUNT;
+use super::key::SETTINGS;
+use super::key::VALUES;
+use super::name::OPEN;
+use super::name::begins;
 use super::option::Took;
 use super::option::options;
 use model::settings::AttenuationChoice;
@@ -21,12 +26,11 @@ use tuning::board::BoardId;
 use tuning::board::BoardInfo;
 use tuning::board::board_info;
 
-// 48000 and 7000000 as doubles.
+// Where they are left out: 48000 and 7000000 as doubles, and 10.0.0.2.
 const RATE: u64 = 4676829883349860352;
 
 const CENTRE: u64 = 4709274203742797824;
 
-// 10.0.0.2.
 const RADIO: u64 = 167772162;
 
 // The double of a pattern. Every NaN's pattern gives the one NaN that the language has.
@@ -62,28 +66,28 @@ fn choice_of(n: u64) -> AttenuationChoice
 }
 
 fn double_or(values: &[u64], key: usize, other: u64) -> f64
-    requires { ⌜ (key < 18) × (40 ≤ length (now values)) ⌝ }
+    requires { ⌜ (key < keyCount) × (valueCount ≤ length (now values)) ⌝ }
     ensures { λ r. ⌜ r ≡ Open.doubleOr (now (values .entry)) key other ⌝ }
 {
     double_of(or_else(values, key, other))
 }
 
 fn settings_of(values: &[u64]) -> Settings
-    requires { ⌜ (40 ≤ length (now values)) × Open.Within (now values) ⌝ }
+    requires { ⌜ (valueCount ≤ length (now values)) × Open.Within (now values) ⌝ }
     ensures { λ r. ⌜ r ≡ Open.settingsOf (now (values .entry)) ⌝ }
 {
-    let ddc_count = or_else(values, 1, 1) as usize;
-    let center_count = or_else(values, 2, 1) as usize;
-    let sample_rate_hz = double_or(values, 3, RATE);
-    let center_freq_hz = double_or(values, 4, CENTRE);
-    let port = or_else(values, 5, 1024) as u16;
-    let radio_ip = or_else(values, 6, RADIO) as u32;
-    let board = board_of(or_else(values, 7, 1));
-    let attenuation = choice_of(or_else(values, 8, 2));
-    let soft_after = or_else(values, 9, 4500000000);
-    let stall_after = or_else(values, 10, 10000000000);
-    let park_window = or_else(values, 11, 8192);
-    let max_consecutive_malformed = or_else(values, 12, 10000) as u32;
+    let ddc_count = or_else(values, key::RECEIVERS, 1) as usize;
+    let center_count = or_else(values, key::CENTRES, 1) as usize;
+    let sample_rate_hz = double_or(values, key::RATE, RATE);
+    let center_freq_hz = double_or(values, key::CENTRE, CENTRE);
+    let port = or_else(values, key::PORT, 1024) as u16;
+    let radio_ip = or_else(values, key::RADIO, RADIO) as u32;
+    let board = board_of(or_else(values, key::BOARD, 1));
+    let attenuation = choice_of(or_else(values, key::ATTENUATION, 2));
+    let soft_after = or_else(values, key::SOFT, 4500000000);
+    let stall_after = or_else(values, key::HARD, 10000000000);
+    let park_window = or_else(values, key::WINDOW, 8192);
+    let max_consecutive_malformed = or_else(values, key::MALFORMED, 10000) as u32;
     Settings {
         ddc_count,
         center_count,
@@ -103,7 +107,7 @@ fn settings_of(values: &[u64]) -> Settings
 fn unread(expected: Expected) -> Opening
     ensures { λ r. ⌜ r ≡ Open.unreadOpening expected ⌝ }
 {
-    let none = [0u64; 40];
+    let none = [0u64; VALUES];
     Opening {
         read: Read::Unread(expected),
         at: 0,
@@ -113,10 +117,10 @@ fn unread(expected: Expected) -> Opening
 
 // The words after `open`.
 fn opened(s: &[u8], at: usize, values: &mut [u64], numbers: &mut [u32]) -> Opening
-    requires { ⌜ (at ≤ length (now s)) × (now values ≡ unsaid) × (8193 ≤ length (now numbers)) ⌝ }
+    requires { ⌜ (at ≤ length (now s)) × (now values ≡ unsaid) × (mostNumbers ≤ length (now numbers)) ⌝ }
     ensures { λ r. ⌜ r ≡ Open.openedBy (words (drop at (now (s .entry)))) ⌝ }
 {
-    let run = options(s, at, 0, 13, &mut *values, &mut *numbers);
+    let run = options(s, at, SETTINGS, KEY_COUNT, &mut *values, &mut *numbers);
     let took = run.took;
     match took {
         Took::Unknown => return unread(Expected::Setting),
@@ -125,28 +129,26 @@ fn opened(s: &[u8], at: usize, values: &mut [u64], numbers: &mut [u32]) -> Openi
     }
     Opening {
         read: Read::Open,
-        at: or_else(values, 0, 0),
+        at: or_else(values, key::AT, 0),
         settings: settings_of(values),
     }
 }
 
 pub(crate) fn read_settings(line: &[u8], values: &mut [u64], numbers: &mut [u32]) -> Opening
-    requires { ⌜ (now values ≡ unsaid) × (8193 ≤ length (now numbers)) ⌝ }
+    requires { ⌜ (now values ≡ unsaid) × (mostNumbers ≤ length (now numbers)) ⌝ }
     ensures { λ r. ⌜ r ≡ Open.openingOf (now (line .entry)) ⌝ }
 {
     if line.len() > LONGEST {
         return unread(Expected::ShorterLine);
     }
-    let comment = text::find(line, b'#');
-    let s = &line[..comment];
-    let word = text::word_at(s, 0);
-    let start = word.start;
-    let end = word.end;
-    if start == end {
+    let first = begins(line);
+    let text = first.text;
+    let end = first.end;
+    if first.start == end {
         return unread(Expected::Open);
     }
-    if text::place_of(&s[start..end], &NAMES) != 11 {
+    if first.name != OPEN {
         return unread(Expected::Open);
     }
-    opened(s, end, values, numbers)
+    opened(&line[..text], end, values, numbers)
 }

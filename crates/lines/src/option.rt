@@ -5,7 +5,14 @@ ghost use lib.ListN.{length, drop};
 ghost use Rattle.text.specs.Split.{words};
 ghost use Rattle.text.specs.declared.Spelt.the-variants.{Number};
 ghost use Rattle.lines.specs.Option as Option;
+ghost use Rattle.lines.specs.Key.{keyCount, valueCount, mostNumbers};
 ghost use Rattle.lines.specs.declared.option.Took.the-variants.{Taken};
+use super::MOST_NUMBERS;
+use super::MOST_OCTETS;
+use super::key::KEY_COUNT;
+use super::key::KEYS;
+use super::key::KEYS_AT;
+use super::key::MARKS;
 use text::Spelt;
 use values::address::ipv4;
 use values::reading::double;
@@ -14,35 +21,68 @@ use values::reading::reading;
 use values::reading::up_to;
 use values::waiting::waiting;
 
-// A key is its place here: those of `open`, then those of the calls.
-pub const KEYS: [u8; 123] =
-    *b"at receivers centres rate centre port radio board attenuation soft hard window malformed \
-    buffer waiting length bits samples";
+// How a value is spelt.
+const NUMBER: u8 = 0;
 
-// How its value is spelt (specs/Option).
-const SPELLINGS: [u8; 18] = [1, 0, 0, 2, 2, 0, 3, 4, 5, 1, 1, 0, 0, 0, 6, 0, 0, 0];
+const READING: u8 = 1;
 
-const MOST: u64 = 18446744073709551615;
+const DOUBLE: u8 = 2;
 
-const LIMITS: [u64; 18] = [
-    MOST,
-    65535,
-    65535,
-    MOST,
-    MOST,
-    65535,
-    4294967295,
-    256,
+const ADDRESS: u8 = 3;
+
+const BOARD: u8 = 4;
+
+const ATTENUATION: u8 = 5;
+
+const WAITING: u8 = 6;
+
+const SPELLINGS: [u8; KEY_COUNT] = [
+    NUMBER,
+    WAITING,
+    NUMBER,
+    NUMBER,
+    NUMBER,
+    READING,
+    NUMBER,
+    NUMBER,
+    DOUBLE,
+    DOUBLE,
+    NUMBER,
+    ADDRESS,
+    BOARD,
+    ATTENUATION,
+    READING,
+    READING,
+    NUMBER,
+    NUMBER,
+];
+
+// The most octets of a lent packet buffer.
+const MOST_BUFFER: u64 = 8192;
+
+// A board that discovery skipped.
+const SKIPPED: u64 = 256;
+
+// The most that each key's value can be (specs/Option).
+const LIMITS: [u64; KEY_COUNT] = [
+    MOST_BUFFER,
+    MOST_NUMBERS as u64,
+    MOST_OCTETS as u64,
+    u16::MAX as u64,
+    u16::MAX as u64,
+    u64::MAX,
+    u16::MAX as u64,
+    u16::MAX as u64,
+    u64::MAX,
+    u64::MAX,
+    u16::MAX as u64,
+    u32::MAX as u64,
+    SKIPPED,
     2,
-    MOST,
-    MOST,
-    MOST,
-    4294967295,
-    8192,
-    8193,
-    2048,
-    65535,
-    65535,
+    u64::MAX,
+    u64::MAX,
+    u64::MAX,
+    u32::MAX as u64,
 ];
 
 // What a word comes to: a key's place goes with a value that can't be read.
@@ -56,7 +96,7 @@ fn board(w: &[u8]) -> Spelt
     ensures { λ r. ⌜ r ≡ Option.board (now (w .entry)) ⌝ }
 {
     if check::same(w, b"skipped") {
-        return Spelt::Number(256);
+        return Spelt::Number(SKIPPED);
     }
     number(w, 255)
 }
@@ -68,32 +108,32 @@ fn attenuation(w: &[u8]) -> Spelt
 }
 
 fn spelt_as(how: u8, w: &[u8], numbers: &mut [u32]) -> Spelt
-    requires { ⌜ 8193 ≤ length (now numbers) ⌝ }
+    requires { ⌜ mostNumbers ≤ length (now numbers) ⌝ }
     ensures { λ r. ⌜ (r ≡ Option.speltAs how (now (w .entry))) × ((n : ℕ) → r ≡ Number n → now (numbers .exit) ≡ Option.numbersAs how (now (w .entry)) (now (numbers .entry))) ⌝ }
 {
-    if how == 1 {
+    if how == READING {
         return reading(w);
     }
-    if how == 2 {
+    if how == DOUBLE {
         return double(w);
     }
-    if how == 3 {
+    if how == ADDRESS {
         return ipv4(w);
     }
-    if how == 4 {
+    if how == BOARD {
         return board(w);
     }
-    if how == 5 {
+    if how == ATTENUATION {
         return attenuation(w);
     }
-    if how == 6 {
+    if how == WAITING {
         return waiting(w, numbers);
     }
     text::digits(w, 10)
 }
 
 fn value(key: usize, w: &[u8], numbers: &mut [u32]) -> Spelt
-    requires { ⌜ (key < 18) × (8193 ≤ length (now numbers)) ⌝ }
+    requires { ⌜ (key < keyCount) × (mostNumbers ≤ length (now numbers)) ⌝ }
     ensures { λ r. ⌜ (r ≡ Option.valueOf key (now (w .entry))) × ((n : ℕ) → r ≡ Number n → now (numbers .exit) ≡ Option.numbersFor key (now (w .entry)) (now (numbers .entry))) ⌝ }
 {
     let how = SPELLINGS[key];
@@ -102,7 +142,7 @@ fn value(key: usize, w: &[u8], numbers: &mut [u32]) -> Spelt
 }
 
 fn take_option(w: &[u8], from: usize, to: usize, values: &mut [u64], numbers: &mut [u32]) -> Took
-    requires { ⌜ (to ≤ 18) × (36 ≤ length (now values)) × (8193 ≤ length (now numbers)) ⌝ }
+    requires { ⌜ (to ≤ keyCount) × (valueCount ≤ length (now values)) × (mostNumbers ≤ length (now numbers)) ⌝ }
     ensures { λ r. ⌜ Option.Stepped from to (now (values .entry)) (now (numbers .entry)) (now (w .entry)) r (now (values .exit)) (now (numbers .exit)) ⌝ }
 {
     let equals = text::find(w, b'=');
@@ -116,7 +156,7 @@ fn take_option(w: &[u8], from: usize, to: usize, values: &mut [u64], numbers: &m
     if to <= key {
         return Took::Unknown;
     }
-    let mark = 18 + key;
+    let mark = MARKS + key;
     if values[mark] == 1 {
         return Took::Unknown;
     }
@@ -124,7 +164,7 @@ fn take_option(w: &[u8], from: usize, to: usize, values: &mut [u64], numbers: &m
     let Spelt::Number(v) = value(key, &w[start..], numbers) else {
         return Took::Unreadable(key as u8);
     };
-    values[key] = v;
+    values[KEYS_AT + key] = v;
     values[mark] = 1;
     Took::Taken
 }
@@ -144,7 +184,7 @@ pub(crate) fn options(
     values: &mut [u64],
     numbers: &mut [u32],
 ) -> Run
-    requires { ⌜ (start ≤ length (now s)) × (to ≤ 18) × (36 ≤ length (now values)) × (8193 ≤ length (now numbers)) ⌝ }
+    requires { ⌜ (start ≤ length (now s)) × (to ≤ keyCount) × (valueCount ≤ length (now values)) × (mostNumbers ≤ length (now numbers)) ⌝ }
     ensures { λ r. ⌜ Option.Ran from to (now (values .entry)) (now (numbers .entry)) (words (drop start (now (s .entry)))) (r .took) (now (values .exit)) (now (numbers .exit)) × Option.Stopped from to (now (s .entry)) (now (values .entry)) (words (drop start (now (s .entry)))) (r .at) ⌝ }
 {
     let mut at = start;

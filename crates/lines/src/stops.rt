@@ -3,11 +3,18 @@ ghost use mathlib.Core.Path.{_≡_};
 ghost use Prim.Native.Nat.{_≤_, _<_};
 ghost use lib.ListN.{length, drop};
 ghost use Rattle.text.specs.Split.{words};
-ghost use Rattle.lines.specs.Call.{unsaid};
+ghost use Rattle.lines.specs.Key.{unsaid, mostNumbers, mostOctets};
+ghost use Rattle.lines.specs.Name.{nameCount};
 ghost use Rattle.lines.specs.Found as Found;
+use super::argument::ALL_READ;
 use super::argument::arguments;
-use super::call::ENDS;
-use super::call::NAMES;
+use super::key::BUFFER;
+use super::key::KEY_COUNT;
+use super::key::SETTINGS;
+use super::name::ENDS;
+use super::name::NAME_COUNT;
+use super::name::OPEN;
+use super::name::begins;
 use super::option::options;
 use text::Word;
 
@@ -20,20 +27,20 @@ fn stop(
     octets: &mut [u8],
     numbers: &mut [u32],
 ) -> usize
-    requires { ⌜ (at ≤ length (now s)) × (name < 12) × (now values ≡ unsaid) × (2048 ≤ length (now octets)) × (8193 ≤ length (now numbers)) ⌝ }
+    requires { ⌜ (at ≤ length (now s)) × (name < nameCount) × (now values ≡ unsaid) × (mostOctets ≤ length (now octets)) × (mostNumbers ≤ length (now numbers)) ⌝ }
     ensures { λ r. ⌜ (r ≤ length (now (s .entry))) × (words (drop r (now (s .entry))) ≡ Found.restNamed name (words (drop at (now (s .entry))))) ⌝ }
 {
-    if name == 11 {
-        let settings = options(s, at, 0, 13, values, numbers);
+    if name == OPEN {
+        let settings = options(s, at, SETTINGS, KEY_COUNT, values, numbers);
         return settings.at;
     }
     let given = arguments(s, at, name, &mut *values, octets);
     let unread = given.unread;
     let start = given.at;
-    if unread != 6 {
+    if unread != ALL_READ {
         return start;
     }
-    let run = options(s, start, 13, ENDS[name], values, numbers);
+    let run = options(s, start, BUFFER, ENDS[name], values, numbers);
     run.at
 }
 
@@ -43,20 +50,20 @@ pub(crate) fn found_in(
     octets: &mut [u8],
     numbers: &mut [u32],
 ) -> Word
-    requires { ⌜ (now values ≡ unsaid) × (2048 ≤ length (now octets)) × (8193 ≤ length (now numbers)) ⌝ }
+    requires { ⌜ (now values ≡ unsaid) × (mostOctets ≤ length (now octets)) × (mostNumbers ≤ length (now numbers)) ⌝ }
     ensures { λ r. ⌜ Found.Stands (now (line .entry)) (Found.foundIn (now (line .entry))) (r .start) (r .end) ⌝ }
 {
-    let comment = text::find(line, b'#');
-    let s = &line[..comment];
-    let word = text::word_at(s, 0);
-    let start = word.start;
-    let end = word.end;
+    let first = begins(line);
+    let text = first.text;
+    let start = first.start;
+    let end = first.end;
+    let name = first.name;
     if start == end {
         return Word { start, end };
     }
-    let name = text::place_of(&s[start..end], &NAMES);
-    if name > 11 {
+    if name >= NAME_COUNT {
         return Word { start, end };
     }
+    let s = &line[..text];
     text::word_at(s, stop(s, end, name, values, octets, numbers))
 }

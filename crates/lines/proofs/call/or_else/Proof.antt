@@ -16,6 +16,9 @@ mul-if1 c = search needs
 shared-slice-read-if1 : tie.Need-shared-slice-read-if1
 shared-slice-read-if1 c = search needs
 
+add-result : tie.Need-add-result
+add-result c = search needs
+
 mul-result : tie.Need-mul-result
 mul-result c = search needs
 
@@ -37,6 +40,7 @@ or-else-spec =
     add-if1
     mul-if1
     shared-slice-read-if1
+    add-result
     mul-result
     shared-slice-read-result
     returns

@@ -29,6 +29,12 @@ port-of-requires c κs = search needs
 count-of-requires : tie.Need-count-of-requires
 count-of-requires c κs = search needs
 
+add-waiting : tie.Need-add-waiting
+add-waiting c = search needs
+
+mul-waiting : tie.Need-mul-waiting
+mul-waiting c = search needs
+
 shared-slice-read-waiting : tie.Need-shared-slice-read-waiting
 shared-slice-read-waiting c = search needs
 
@@ -80,6 +86,8 @@ put-call-spec =
     address-of-requires
     port-of-requires
     count-of-requires
+    add-waiting
+    mul-waiting
     shared-slice-read-waiting
     places-of-requires
     slice-write-call

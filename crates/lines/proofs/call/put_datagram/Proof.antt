@@ -6,6 +6,7 @@ use borrow.Author.Tests.{eq-eqb, ne-eqb}
 use Rattle.octets.specs.Written.{written}
 use Rattle.base.proofs.Picks.{pick-t, pick-f}
 use Rattle.values.specs.Datagram.{iqOctets}
+use Rattle.lines.specs.Key.{bitsKey, thirdWord}
 use Rattle.lines.specs.Call.{orElse, octetsOf}
 use borrow.Author.Needs.{needs}
 use Rattle.lines.proofs.call.put_datagram.Statement.{statement}
@@ -40,8 +41,8 @@ unfolding octetsOf
 returns c =
     let a = c .before .before .before .before .before .before .before .before .before .before .args in
     c .before .before .put-iq .ensures
-    ∙ ap (λ (b : ℕ). written (a .octets .now) 0 (iqOctets (getD (a .values .now) 38 0) b (c .before .before .before .before .or-else2 .result))) (c .before .before .before .before .before .or-else .ensures)
-    ∙ ap (λ (b : ℕ). written (a .octets .now) 0 (iqOctets (getD (a .values .now) 38 0) (orElse (a .values .now) 16 24) b)) (c .before .before .before .before .or-else2 .ensures)
+    ∙ ap (λ (b : ℕ). written (a .octets .now) 0 (iqOctets (getD (a .values .now) thirdWord 0) b (c .before .before .before .before .or-else2 .result))) (c .before .before .before .before .before .or-else .ensures)
+    ∙ ap (λ (b : ℕ). written (a .octets .now) 0 (iqOctets (getD (a .values .now) thirdWord 0) (orElse (a .values .now) bitsKey 24) b)) (c .before .before .before .before .or-else2 .ensures)
     ∙ sym (pick-t _ _ _ (eq-eqb _ _ (c .before .before .before .before .before .before .before .if1 .taken)))
 
 shared-slice-read-put-status : tie.Need-shared-slice-read-put-status

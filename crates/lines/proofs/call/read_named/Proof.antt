@@ -2,7 +2,9 @@
 use mathlib.Core.Path.{refl, ap}
 use lib.ListN.{length}
 use native.Mathlib.Omega.{arith}
-use Rattle.lines.specs.Call.{ends}
+use Prim.Native.Nat.{_+_}
+use Rattle.lines.specs.Key.{keyCount}
+use Rattle.lines.specs.Name.{ends}
 use Rattle.lines.proofs.Forms.{getD-under}
 use Rattle.lines.proofs.Bounds.{small}
 use Rattle.lines.proofs.Calls.{not-read, unknown-word, unread-value, state, held, done}
@@ -32,7 +34,7 @@ array-read-options : tie.Need-array-read-options
 array-read-options c = search needs
 
 options-requires : tie.Need-options-requires
-options-requires c κs = (c .before .before .before .before .before .before .before .arguments .ensures .within, omega (arith, getD-under 19 ends (omega arith) tt (c .before .before .before .before .before .before .before .before .before .before .before .before .before .before .before .args .name)), omega (arith, ap length (c .before .before .before .before .before .before .before .before .before .before .before .before .before .before .before .pre .2), c .before .before .before .before .before .before .before .arguments .kept .1 .1 .1 .0), search needs)
+options-requires c κs = (c .before .before .before .before .before .before .before .arguments .ensures .within, omega (arith, getD-under (keyCount + 1) ends (omega arith) tt (c .before .before .before .before .before .before .before .before .before .before .before .before .before .before .before .args .name)), omega (arith, ap length (c .before .before .before .before .before .before .before .before .before .before .before .before .before .before .before .pre .2), c .before .before .before .before .before .before .before .arguments .kept .1 .1 .1 .0), search needs)
 
 enum-told : tie.Need-enum-told
 enum-told c = search needs

@@ -1,5 +1,6 @@
 -- `lines::open::settings_of` takes each setting from its key. Assumes nothing.
 use native.Mathlib.Omega.{arith}
+use Rattle.lines.specs.Key.{portKey, radioKey, boardKey, malformedKey}
 use Rattle.lines.specs.Open.{settingsOf}
 use Rattle.lines.proofs.Bounds.{or-else-most}
 use Rattle.lines.proofs.Openings.{rate-bits, centre-bits}
@@ -23,19 +24,19 @@ or-else-requires-3 : tie.Need-or-else-requires-3
 or-else-requires-3 c κs = search needs
 
 cast-port : tie.Need-cast-port
-cast-port c = omega (arith, c .or-else3 .ensures, or-else-most (c .before .before .before .before .before .before .args .values .now) 5 1024 65535 (c .before .before .before .before .before .before .pre .1 5 (omega arith)) (omega arith))
+cast-port c = omega (arith, c .or-else3 .ensures, or-else-most (c .before .before .before .before .before .before .args .values .now) portKey 1024 65535 (c .before .before .before .before .before .before .pre .1 portKey (omega arith)) (omega arith))
 
 or-else-requires-4 : tie.Need-or-else-requires-4
 or-else-requires-4 c κs = search needs
 
 cast-radio-ip : tie.Need-cast-radio-ip
-cast-radio-ip c = omega (arith, c .or-else4 .ensures, or-else-most (c .before .before .before .before .before .before .before .args .values .now) 6 167772162 4294967295 (c .before .before .before .before .before .before .before .pre .1 6 (omega arith)) (omega arith))
+cast-radio-ip c = omega (arith, c .or-else4 .ensures, or-else-most (c .before .before .before .before .before .before .before .args .values .now) radioKey 167772162 4294967295 (c .before .before .before .before .before .before .before .pre .1 radioKey (omega arith)) (omega arith))
 
 or-else-requires-5 : tie.Need-or-else-requires-5
 or-else-requires-5 c κs = search needs
 
 board-of-requires : tie.Need-board-of-requires
-board-of-requires c κs = omega (arith, c .or-else5 .ensures, or-else-most (c .before .before .before .before .before .before .before .before .args .values .now) 7 1 256 (c .before .before .before .before .before .before .before .before .pre .1 7 (omega arith)) (omega arith))
+board-of-requires c κs = omega (arith, c .or-else5 .ensures, or-else-most (c .before .before .before .before .before .before .before .before .args .values .now) boardKey 1 256 (c .before .before .before .before .before .before .before .before .pre .1 boardKey (omega arith)) (omega arith))
 
 or-else-requires-6 : tie.Need-or-else-requires-6
 or-else-requires-6 c κs = search needs
@@ -56,7 +57,7 @@ or-else-requires-10 : tie.Need-or-else-requires-10
 or-else-requires-10 c κs = search needs
 
 cast-max-consecutive-malformed : tie.Need-cast-max-consecutive-malformed
-cast-max-consecutive-malformed c = omega (arith, c .or-else10 .ensures, or-else-most (c .before .before .before .before .before .before .before .before .before .before .before .before .before .before .before .args .values .now) 12 10000 4294967295 (c .before .before .before .before .before .before .before .before .before .before .before .before .before .before .before .pre .1 12 (omega arith)) (omega arith))
+cast-max-consecutive-malformed c = omega (arith, c .or-else10 .ensures, or-else-most (c .before .before .before .before .before .before .before .before .before .before .before .before .before .before .before .args .values .now) malformedKey 10000 4294967295 (c .before .before .before .before .before .before .before .before .before .before .before .before .before .before .before .pre .1 malformedKey (omega arith)) (omega arith))
 
 returns : tie.Need-returns
 unfolding settingsOf

@@ -5,7 +5,7 @@ use Rattle.text.specs.Name.{place}
 use Rattle.text.specs.declared.Spelt.the-variants.{Number}
 use Rattle.values.specs.Value.{upTo}
 use Rattle.lines.specs.Option.{attenuation}
-use Rattle.lines.proofs.Options.{attenuation-names}
+use Rattle.lines.proofs.Names.{attenuation-names}
 use borrow.Author.Needs.{needs}
 use Rattle.lines.proofs.option.attenuation.Statement.{statement}
 use Rattle.lines.proofs.option.attenuation.Tie as tie

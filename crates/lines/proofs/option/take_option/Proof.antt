@@ -8,7 +8,8 @@ use native.Mathlib.Omega.{arith}
 use Rattle.text.specs.Name.{place}
 use Rattle.text.proofs.Splits.{to-the-end}
 use Rattle.lines.specs.Option.{valueOf, numbersFor}
-use Rattle.lines.proofs.Options.{key-names, no-equals, key-below, key-above, said-before, unread-value, taken}
+use Rattle.lines.proofs.Names.{key-names}
+use Rattle.lines.proofs.Options.{no-equals, key-below, key-above, said-before, unread-value, taken}
 use borrow.Author.Needs.{needs}
 use Rattle.lines.proofs.option.take_option.Statement.{statement}
 use Rattle.lines.proofs.option.take_option.Tie as tie
@@ -76,6 +77,9 @@ same-length c = search needs
 returns-5 : tie.Need-returns-5
 returns-5 c = unread-value _ _ _ _ _ _ _ _ (c .before .before .before .before .before .before .before .before .before .before .before .before .before .before .before .find .ensures .0) (search needs) _ (c .before .before .before .before .before .before .before .before .before .before .before .place-of .ensures ∙ ap (place (take (c .before .before .before .before .before .before .before .before .before .before .before .before .before .before .before .find .result) (c .before .before .before .before .before .before .before .before .before .before .before .before .before .before .before .before .before .before .before .args .w .now))) key-names) (c .before .before .before .before .before .before .before .before .before .before .if2 .left) (c .before .before .before .before .before .before .before .before .before .if3 .left) (c .before .before .before .before .before .before .before .if4 .left) (sym (c .before .before .before .before .value .ensures .0 ∙ ap (valueOf (c .before .before .before .before .before .before .before .before .before .before .before .place-of .result)) (to-the-end (c .before .before .before .before .before .before .before .before .before .before .before .before .before .before .before .before .before .before .before .args .w .now) (c .before .before .before .before .before .before .before .before .before .before .before .before .before .before .before .find .result + 1))) ∙ c .enum-told .given .1)
 
+add-values : tie.Need-add-values
+add-values c = search needs
+
 mul-values : tie.Need-mul-values
 mul-values c = search needs
 
@@ -124,6 +128,7 @@ take-option-spec =
     cast-t26
     same-length
     returns-5
+    add-values
     mul-values
     slice-write-values
     mul-values-2

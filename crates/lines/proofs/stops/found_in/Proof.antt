@@ -1,51 +1,28 @@
 -- `lines::stops::found_in` reads the name, then the words behind it. Assumes nothing.
-use Prim.Native.Nat.{ℕ}
-use mathlib.Core.Path.{sym, ap, _∙_}
-use lib.ListN.{take}
+use mathlib.Core.Path.{sym}
 use lib.Seq.{length-take-le}
-use native.Mathlib.Omega.{arith}
-use Rattle.text.specs.Name.{place}
-use Rattle.lines.proofs.Calls.{call-names}
 use Rattle.lines.proofs.Rests.{no-words, no-name, after-name}
 use borrow.Author.Needs.{needs}
 use Rattle.lines.proofs.stops.found_in.Statement.{statement}
 use Rattle.lines.proofs.stops.found_in.Tie as tie
 
-find-requires : tie.Need-find-requires
-find-requires c κs = search needs
+begins-requires : tie.Need-begins-requires
+begins-requires c κs = search needs
+
+returns : tie.Need-returns
+returns c = no-words _ _ (c .before .begins .ensures .cut) _ _ (c .before .begins .ensures .word) (c .if1 .taken)
+
+returns-2 : tie.Need-returns-2
+returns-2 c = no-name _ _ (c .before .before .begins .ensures .cut) _ _ (c .before .before .begins .ensures .word) (c .before .if1 .left) _ (c .before .before .begins .ensures .named) (c .if2 .taken)
 
 slice-aggregate-s : tie.Need-slice-aggregate-s
-slice-aggregate-s c = sym (length-take-le (c .before .find .result) (c .before .before .before .before .before .before .args .line .now) (c .before .find .ensures .1))
+slice-aggregate-s c = sym (length-take-le (c .before .before .before .begins .result .text) (c .before .before .before .before .before .before .before .before .args .line .now) (c .before .before .before .begins .ensures .within))
+
+stop-requires : tie.Need-stop-requires
+stop-requires c κs = search needs
 
 word-at-requires : tie.Need-word-at-requires
 word-at-requires c κs = search needs
-
-returns : tie.Need-returns
-returns c = no-words _ _ (ap (λ (k : ℕ). take k (c .before .before .before .before .before .before .before .before .args .line .now)) (c .before .before .before .find .ensures .0)) _ _ (c .before .word-at .ensures) (c .if1 .taken)
-
-sub-place-of : tie.Need-sub-place-of
-sub-place-of c = search needs
-
-part-place-of-start : tie.Need-part-place-of-start
-part-place-of-start c = search needs
-
-part-place-of-end : tie.Need-part-place-of-end
-part-place-of-end c = search needs
-
-slice-aggregate-place-of : tie.Need-slice-aggregate-place-of
-slice-aggregate-place-of c = search needs
-
-place-of-requires : tie.Need-place-of-requires
-place-of-requires c κs = search needs
-
-returns-2 : tie.Need-returns-2
-returns-2 c = no-name _ _ (ap (λ (k : ℕ). take k (c .before .before .before .before .before .before .before .before .before .before .before .before .args .line .now)) (c .before .before .before .before .before .before .before .find .ensures .0)) _ _ (c .before .before .before .before .before .word-at .ensures) (c .before .before .before .before .if1 .left) _ (c .before .place-of .ensures ∙ ap (place _) call-names) (c .if2 .taken)
-
-stop-requires : tie.Need-stop-requires
-stop-requires c κs = (c .before .before .before .before .before .before .before .before .word-at .ensures .within, omega (arith, c .before .before .before .if2 .left), c .before .before .before .before .before .before .before .before .before .before .before .before .before .before .before .pre .0, c .before .before .before .before .before .before .before .before .before .before .before .before .before .before .before .pre .1, c .before .before .before .before .before .before .before .before .before .before .before .before .before .before .before .pre .2)
-
-word-at-requires-2 : tie.Need-word-at-requires-2
-word-at-requires-2 c κs = c .before .before .before .before .before .before .stop .ensures .0
 
 same-length : tie.Need-same-length
 same-length c = search needs
@@ -57,24 +34,18 @@ same-length-3 : tie.Need-same-length-3
 same-length-3 c = search needs
 
 returns-3 : tie.Need-returns-3
-returns-3 c = after-name _ _ (ap (λ (k : ℕ). take k (c .before .before .before .before .before .before .before .before .before .before .before .before .before .before .before .before .before .before .before .before .before .before .before .args .line .now)) (c .before .before .before .before .before .before .before .before .before .before .before .before .before .before .before .before .before .before .find .ensures .0)) _ _ (c .before .before .before .before .before .before .before .before .before .before .before .before .before .before .before .before .word-at .ensures) (c .before .before .before .before .before .before .before .before .before .before .before .before .before .before .before .if1 .left) _ (c .before .before .before .before .before .before .before .before .before .before .before .before .place-of .ensures ∙ ap (place _) call-names) (c .before .before .before .before .before .before .before .before .before .before .before .if2 .left) _ _ _ (c .before .before .before .before .before .before .before .stop .ensures .1) (c .word-at2 .ensures)
+returns-3 c = after-name _ _ (c .before .before .before .before .before .before .before .before .before .before .before .before .before .before .begins .ensures .cut) _ _ (c .before .before .before .before .before .before .before .before .before .before .before .before .before .before .begins .ensures .word) (c .before .before .before .before .before .before .before .before .before .before .before .before .before .if1 .left) _ (c .before .before .before .before .before .before .before .before .before .before .before .before .before .before .begins .ensures .named) (c .before .before .before .before .before .before .before .before .before .before .before .before .if2 .left) _ _ _ (c .before .before .before .before .before .before .before .stop .ensures .1) (c .word-at .ensures)
 
 pub found-in-spec : {M : Type 1} → statement M
 found-in-spec =
     tie.close
     (tie.spec
-    find-requires
-    slice-aggregate-s
-    word-at-requires
+    begins-requires
     returns
-    sub-place-of
-    part-place-of-start
-    part-place-of-end
-    slice-aggregate-place-of
-    place-of-requires
     returns-2
+    slice-aggregate-s
     stop-requires
-    word-at-requires-2
+    word-at-requires
     same-length
     same-length-2
     same-length-3

@@ -2,7 +2,9 @@
 use mathlib.Core.Path.{refl, ap}
 use lib.ListN.{length}
 use native.Mathlib.Omega.{arith}
-use Rattle.lines.specs.Call.{ends}
+use Prim.Native.Nat.{_+_}
+use Rattle.lines.specs.Key.{keyCount}
+use Rattle.lines.specs.Name.{ends}
 use Rattle.lines.proofs.Forms.{getD-under}
 use Rattle.lines.proofs.Rests.{at-setting, at-word, at-option}
 use borrow.Author.Needs.{needs}
@@ -40,7 +42,7 @@ array-read-options : tie.Need-array-read-options
 array-read-options c = search needs
 
 options-requires-2 : tie.Need-options-requires-2
-options-requires-2 c κs = (c .before .before .before .before .before .before .before .arguments .ensures .within, omega (arith, getD-under 19 ends (omega arith) tt (c .before .before .before .before .before .before .before .before .before .before .before .before .before .before .before .args .name)), omega (arith, ap length (c .before .before .before .before .before .before .before .before .before .before .before .before .before .before .before .pre .2), c .before .before .before .before .before .before .before .arguments .kept .1 .1 .1 .0), search needs)
+options-requires-2 c κs = (c .before .before .before .before .before .before .before .arguments .ensures .within, omega (arith, getD-under (keyCount + 1) ends (omega arith) tt (c .before .before .before .before .before .before .before .before .before .before .before .before .before .before .before .args .name)), omega (arith, ap length (c .before .before .before .before .before .before .before .before .before .before .before .before .before .before .before .pre .2), c .before .before .before .before .before .before .before .arguments .kept .1 .1 .1 .0), search needs)
 
 same-length-5 : tie.Need-same-length-5
 same-length-5 c = search needs
