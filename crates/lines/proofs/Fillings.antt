@@ -55,7 +55,7 @@ module _ (ts s l d : List ℕ) (start at j : ℕ) (m n : List ℕ) (i : Filling 
         rest = sym (ap (λ (x : List ℕ). argumentsRest x (words (drop at s))) z) ∙ i .rest;
       }
 
-  module _ (h : j < length ts) (t : ℕ) (k : t ≡ getD ts j 0) (b : t < 6) (a e : ℕ) (w : WordAt s at a e) where
+  module _ (h : j < length ts) (t : ℕ) (k : t ≡ getD ts j 0) (b : t < allRead) (a e : ℕ) (w : WordAt s at a e) where
     next : drop j ts ≡ t ∷ drop (suc j) ts
     next = drop-cons ts j 0 h ∙ ap (λ (x : ℕ). x ∷ drop (suc j) ts) (sym k)
 

@@ -7,7 +7,7 @@ use native.Mathlib.Omega.{arith}
 use lib.Dec.{T, ltb, ltb→lt}
 use lib.Ieee.Fits.{and-l, and-r}
 use lib.ListN.{length, getD, List·getD-map}
-use Rattle.lines.specs.Argument.{forms, form}
+use Rattle.lines.specs.Argument.{allRead, forms, form}
 
 -- every element is below m
 abbrev under : ℕ → List ℕ → Bool
@@ -28,8 +28,8 @@ getD-unders m [] p t n j = p
 getD-unders m (l ∷ ls) p t zero j = getD-under m l p (and-l (under m l) (unders m ls) t) j
 getD-unders m (l ∷ ls) p t (suc n) j = getD-unders m ls p (and-r (under m l) (unders m ls) t) n j
 
-pub word-below : (name j : ℕ) → getD (form name) j 0 < 6
-word-below name j = getD-unders 6 forms (omega arith) tt name j
+pub word-below : (name j : ℕ) → getD (form name) j 0 < allRead
+word-below name j = getD-unders allRead forms (omega arith) tt name j
 
 -- the table's columns: how many words, and each in its place
 pub count-column : (name : ℕ) → getD (map length forms) name 0 ≡ length (form name)

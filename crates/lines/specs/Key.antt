@@ -43,12 +43,12 @@ bitsKey = 3
 abbrev pub samplesKey : ℕ
 samplesKey = 4
 
--- the settings start here
-abbrev pub settings : ℕ
-settings = 5
-
 abbrev pub atKey : ℕ
 atKey = 5
+
+-- the settings start here
+abbrev pub settings : ℕ
+settings = atKey
 
 abbrev pub receiversKey : ℕ
 receiversKey = 6

@@ -141,7 +141,7 @@ fn argument_as(t: u8, w: &[u8], room: &mut [u8]) -> Spelt
 }
 
 fn argument(t: u8, w: &[u8], room: &mut [u8]) -> Spelt
-    requires { ⌜ (t < 6) × (mostOctets ≤ length (now room)) ⌝ }
+    requires { ⌜ (t < Argument.allRead) × (mostOctets ≤ length (now room)) ⌝ }
     ensures { λ r. ⌜ (r ≡ Argument.argument t (now (w .entry))) × ((n : ℕ) → r ≡ Number n → now (room .exit) ≡ Argument.octetsAs t (now (w .entry)) (now (room .entry))) ⌝ }
 {
     let most = MOST[t as usize];

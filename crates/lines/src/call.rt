@@ -13,6 +13,7 @@ use super::argument;
 use super::argument::ALL_READ;
 use super::argument::arguments;
 use super::key;
+use super::key::BUFFER;
 use super::key::KEYS_AT;
 use super::key::MARKS;
 use super::name;
@@ -132,7 +133,7 @@ fn places_of(name: usize, values: &[u64]) -> u64
     if name == name::TAKE {
         return values[key::SECOND_WORD];
     }
-    or_else(values, key::BUFFER, BUFFERS[name])
+    or_else(values, BUFFER, BUFFERS[name])
 }
 
 fn put_call(name: usize, ip: u32, port: u16, values: &[u64], call: &mut [u64])
@@ -194,14 +195,7 @@ fn read_named(
     if unread != ALL_READ {
         return Read::Unread(expected_word(unread));
     }
-    let run = options(
-        s,
-        start,
-        key::BUFFER,
-        ENDS[name],
-        &mut *values,
-        &mut *numbers,
-    );
+    let run = options(s, start, BUFFER, ENDS[name], &mut *values, &mut *numbers);
     let took = run.took;
     match took {
         Took::Unknown => return Read::Unread(Expected::End),
@@ -244,15 +238,6 @@ pub(crate) fn read_line(
     if name >= NAME_COUNT {
         return Read::Unread(Expected::Call);
     }
-    read_named(
-        &line[..text],
-        end,
-        name,
-        ip,
-        port,
-        values,
-        call,
-        octets,
-        numbers,
-    )
+    let s = &line[..text];
+    read_named(s, end, name, ip, port, values, call, octets, numbers)
 }

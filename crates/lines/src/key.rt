@@ -15,7 +15,7 @@ pub const BITS: usize = 3;
 pub const SAMPLES: usize = 4;
 
 // The settings start here.
-pub const SETTINGS: usize = 5;
+pub const SETTINGS: usize = AT;
 
 pub const AT: usize = 5;
 

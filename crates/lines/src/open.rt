@@ -18,7 +18,11 @@ use super::key::SETTINGS;
 use super::key::VALUES;
 use super::name::OPEN;
 use super::name::begins;
+use super::option::OFF;
+use super::option::ON;
+use super::option::SKIPPED;
 use super::option::Took;
+use super::option::UNSAID;
 use super::option::options;
 use model::settings::AttenuationChoice;
 use model::settings::Settings;
@@ -47,7 +51,7 @@ fn board_of(n: u64) -> BoardInfo
     requires { ⌜ n ≤ 256 ⌝ }
     ensures { λ r. ⌜ r ≡ boardInfo (Open.boardId n) ⌝ }
 {
-    if n == 256 {
+    if n == SKIPPED {
         return board_info(BoardId::Skipped);
     }
     board_info(BoardId::Number(n as u8))
@@ -56,10 +60,10 @@ fn board_of(n: u64) -> BoardInfo
 fn choice_of(n: u64) -> AttenuationChoice
     ensures { λ r. ⌜ r ≡ Open.choice n ⌝ }
 {
-    if n == 0 {
+    if n == OFF {
         return AttenuationChoice::Off;
     }
-    if n == 1 {
+    if n == ON {
         return AttenuationChoice::On;
     }
     AttenuationChoice::Unsaid
@@ -83,7 +87,7 @@ fn settings_of(values: &[u64]) -> Settings
     let port = or_else(values, key::PORT, 1024) as u16;
     let radio_ip = or_else(values, key::RADIO, RADIO) as u32;
     let board = board_of(or_else(values, key::BOARD, 1));
-    let attenuation = choice_of(or_else(values, key::ATTENUATION, 2));
+    let attenuation = choice_of(or_else(values, key::ATTENUATION, UNSAID));
     let soft_after = or_else(values, key::SOFT, 4500000000);
     let stall_after = or_else(values, key::HARD, 10000000000);
     let park_window = or_else(values, key::WINDOW, 8192);

@@ -61,7 +61,14 @@ const SPELLINGS: [u8; KEY_COUNT] = [
 const MOST_BUFFER: u64 = 8192;
 
 // A board that discovery skipped.
-const SKIPPED: u64 = 256;
+pub(crate) const SKIPPED: u64 = 256;
+
+// The attenuations.
+pub(crate) const OFF: u64 = 0;
+
+pub(crate) const ON: u64 = 1;
+
+pub(crate) const UNSAID: u64 = 2;
 
 // The most that each key's value can be (specs/Option).
 const LIMITS: [u64; KEY_COUNT] = [
@@ -78,7 +85,7 @@ const LIMITS: [u64; KEY_COUNT] = [
     u16::MAX as u64,
     u32::MAX as u64,
     SKIPPED,
-    2,
+    UNSAID,
     u64::MAX,
     u64::MAX,
     u64::MAX,
@@ -104,7 +111,8 @@ fn board(w: &[u8]) -> Spelt
 fn attenuation(w: &[u8]) -> Spelt
     ensures { λ r. ⌜ r ≡ Option.attenuation (now (w .entry)) ⌝ }
 {
-    up_to(Spelt::Number(text::place_of(w, b"off on unsaid") as u64), 2)
+    let place = text::place_of(w, b"off on unsaid");
+    up_to(Spelt::Number(place as u64), UNSAID)
 }
 
 fn spelt_as(how: u8, w: &[u8], numbers: &mut [u32]) -> Spelt

@@ -2,7 +2,7 @@
 use mathlib.Core.Path.{refl, sym, _∙_}
 use borrow.Author.Tests.{eq-eqb, ne-eqb}
 use Rattle.base.proofs.Picks.{pick-t, pick-f}
-use Rattle.lines.specs.Argument.{argumentAs, octetsAs}
+use Rattle.lines.specs.Argument.{readingWord, senderWord, octetsWord, argumentAs, octetsAs}
 use Rattle.lines.proofs.Options.{differs}
 use borrow.Author.Needs.{needs}
 use Rattle.lines.proofs.argument.argument_as.Statement.{statement}
@@ -13,14 +13,14 @@ reading-requires c κs = search needs
 
 returns : tie.Need-returns
 unfolding argumentAs octetsAs
-returns c = (c .reading .ensures ∙ sym (pick-t _ _ _ (eq-eqb _ _ (c .before .if1 .taken))), λ n e. sym (pick-f _ _ _ (differs 0 5 refl (c .before .if1 .taken))))
+returns c = (c .reading .ensures ∙ sym (pick-t _ _ _ (eq-eqb _ _ (c .before .if1 .taken))), λ n e. sym (pick-f _ _ _ (differs readingWord octetsWord refl (c .before .if1 .taken))))
 
 sender-requires : tie.Need-sender-requires
 sender-requires c κs = search needs
 
 returns-2 : tie.Need-returns-2
 unfolding argumentAs octetsAs
-returns-2 c = (c .sender .ensures ∙ sym (pick-f _ _ _ (ne-eqb _ _ (c .before .before .if1 .left)) ∙ pick-t _ _ _ (eq-eqb _ _ (c .before .if2 .taken))), λ n e. sym (pick-f _ _ _ (differs 4 5 refl (c .before .if2 .taken))))
+returns-2 c = (c .sender .ensures ∙ sym (pick-f _ _ _ (ne-eqb _ _ (c .before .before .if1 .left)) ∙ pick-t _ _ _ (eq-eqb _ _ (c .before .if2 .taken))), λ n e. sym (pick-f _ _ _ (differs senderWord octetsWord refl (c .before .if2 .taken))))
 
 octets-requires : tie.Need-octets-requires
 octets-requires c κs = search needs

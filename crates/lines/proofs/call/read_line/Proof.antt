@@ -21,8 +21,8 @@ returns-3 c = opens _ _ _ _ _ _ _ _ (c .before .before .before .before .if1 .lef
 returns-4 : tie.Need-returns-4
 returns-4 c = not-a-call _ _ _ _ _ _ _ _ (c .before .before .before .before .before .if1 .left) _ (c .before .before .before .before .begins .ensures .cut) _ _ (c .before .before .before .before .begins .ensures .word) (c .before .before .if2 .left) _ (c .before .before .before .before .begins .ensures .named) (c .if4 .taken)
 
-slice-aggregate-read-named : tie.Need-slice-aggregate-read-named
-slice-aggregate-read-named c = sym (length-take-le (c .before .before .before .before .before .begins .result .text) (c .before .before .before .before .before .before .before .before .before .before .before .before .args .line .now) (c .before .before .before .before .before .begins .ensures .within))
+slice-aggregate-s : tie.Need-slice-aggregate-s
+slice-aggregate-s c = sym (length-take-le (c .before .before .before .before .before .begins .result .text) (c .before .before .before .before .before .before .before .before .before .before .before .before .args .line .now) (c .before .before .before .before .before .begins .ensures .within))
 
 read-named-requires : tie.Need-read-named-requires
 read-named-requires c κs = search needs
@@ -51,7 +51,7 @@ read-line-spec =
     returns-2
     returns-3
     returns-4
-    slice-aggregate-read-named
+    slice-aggregate-s
     read-named-requires
     same-length
     same-length-2
