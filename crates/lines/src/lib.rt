@@ -86,10 +86,7 @@ pub fn read_open(line: &[u8]) -> Opening
 pub fn found(line: &[u8]) -> Word
     ensures { λ r. ⌜ Stands (now (line .entry)) (foundIn (now (line .entry))) (r .start) (r .end) ⌝ }
 {
-    let mut values = [0u64; key::VALUES];
-    let mut octets = [0u8; MOST_OCTETS];
-    let mut numbers = [0u32; MOST_NUMBERS];
-    stops::found_in(line, &mut values, &mut octets, &mut numbers)
+    stops::found_in(line)
 }
 
 // The first word of a line, which names its call. It ends where it starts if the line has no words.

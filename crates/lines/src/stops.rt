@@ -3,14 +3,16 @@ ghost use mathlib.Core.Path.{_≡_};
 ghost use Prim.Native.Nat.{_≤_, _<_};
 ghost use lib.ListN.{length, drop};
 ghost use Rattle.text.specs.Split.{words};
-ghost use Rattle.lines.specs.Key.{unsaid, mostNumbers, mostOctets};
 ghost use Rattle.lines.specs.Name.{nameCount};
 ghost use Rattle.lines.specs.Found as Found;
+use super::MOST_NUMBERS;
+use super::MOST_OCTETS;
 use super::argument::ALL_READ;
 use super::argument::arguments;
 use super::key::BUFFER;
 use super::key::KEY_COUNT;
 use super::key::SETTINGS;
+use super::key::VALUES;
 use super::name::ENDS;
 use super::name::NAME_COUNT;
 use super::name::OPEN;
@@ -19,38 +21,28 @@ use super::option::options;
 use text::Word;
 
 // Behind the words of a name that can be read.
-fn stop(
-    s: &[u8],
-    at: usize,
-    name: usize,
-    values: &mut [u64],
-    octets: &mut [u8],
-    numbers: &mut [u32],
-) -> usize
-    requires { ⌜ (at ≤ length (now s)) × (name < nameCount) × (now values ≡ unsaid) × (mostOctets ≤ length (now octets)) × (mostNumbers ≤ length (now numbers)) ⌝ }
+fn stop(s: &[u8], at: usize, name: usize) -> usize
+    requires { ⌜ (at ≤ length (now s)) × (name < nameCount) ⌝ }
     ensures { λ r. ⌜ (r ≤ length (now (s .entry))) × (words (drop r (now (s .entry))) ≡ Found.restNamed name (words (drop at (now (s .entry))))) ⌝ }
 {
+    let mut values = [0u64; VALUES];
+    let mut numbers = [0u32; MOST_NUMBERS];
     if name == OPEN {
-        let settings = options(s, at, SETTINGS, KEY_COUNT, values, numbers);
+        let settings = options(s, at, SETTINGS, KEY_COUNT, &mut values, &mut numbers);
         return settings.at;
     }
-    let given = arguments(s, at, name, &mut *values, octets);
+    let mut octets = [0u8; MOST_OCTETS];
+    let given = arguments(s, at, name, &mut values, &mut octets);
     let unread = given.unread;
     let start = given.at;
     if unread != ALL_READ {
         return start;
     }
-    let run = options(s, start, BUFFER, ENDS[name], values, numbers);
+    let run = options(s, start, BUFFER, ENDS[name], &mut values, &mut numbers);
     run.at
 }
 
-pub(crate) fn found_in(
-    line: &[u8],
-    values: &mut [u64],
-    octets: &mut [u8],
-    numbers: &mut [u32],
-) -> Word
-    requires { ⌜ (now values ≡ unsaid) × (mostOctets ≤ length (now octets)) × (mostNumbers ≤ length (now numbers)) ⌝ }
+pub(crate) fn found_in(line: &[u8]) -> Word
     ensures { λ r. ⌜ Found.Stands (now (line .entry)) (Found.foundIn (now (line .entry))) (r .start) (r .end) ⌝ }
 {
     let first = begins(line);
@@ -65,5 +57,5 @@ pub(crate) fn found_in(
         return Word { start, end };
     }
     let s = &line[..text];
-    text::word_at(s, stop(s, end, name, values, octets, numbers))
+    text::word_at(s, stop(s, end, name))
 }

@@ -16,7 +16,7 @@ returns-2 : tie.Need-returns-2
 returns-2 c = no-name _ _ (c .before .before .begins .ensures .cut) _ _ (c .before .before .begins .ensures .word) (c .before .if1 .left) _ (c .before .before .begins .ensures .named) (c .if2 .taken)
 
 slice-aggregate-s : tie.Need-slice-aggregate-s
-slice-aggregate-s c = sym (length-take-le (c .before .before .before .begins .result .text) (c .before .before .before .before .before .before .before .before .args .line .now) (c .before .before .before .begins .ensures .within))
+slice-aggregate-s c = sym (length-take-le (c .before .before .before .begins .result .text) (c .before .before .before .before .before .args .line .now) (c .before .before .before .begins .ensures .within))
 
 stop-requires : tie.Need-stop-requires
 stop-requires c κs = search needs
@@ -24,17 +24,8 @@ stop-requires c κs = search needs
 word-at-requires : tie.Need-word-at-requires
 word-at-requires c κs = search needs
 
-same-length : tie.Need-same-length
-same-length c = search needs
-
-same-length-2 : tie.Need-same-length-2
-same-length-2 c = search needs
-
-same-length-3 : tie.Need-same-length-3
-same-length-3 c = search needs
-
 returns-3 : tie.Need-returns-3
-returns-3 c = after-name _ _ (c .before .before .before .before .before .before .before .before .before .before .before .before .before .before .begins .ensures .cut) _ _ (c .before .before .before .before .before .before .before .before .before .before .before .before .before .before .begins .ensures .word) (c .before .before .before .before .before .before .before .before .before .before .before .before .before .if1 .left) _ (c .before .before .before .before .before .before .before .before .before .before .before .before .before .before .begins .ensures .named) (c .before .before .before .before .before .before .before .before .before .before .before .before .if2 .left) _ _ _ (c .before .before .before .before .before .before .before .stop .ensures .1) (c .word-at .ensures)
+returns-3 c = after-name _ _ (c .before .before .before .before .before .begins .ensures .cut) _ _ (c .before .before .before .before .before .begins .ensures .word) (c .before .before .before .before .if1 .left) _ (c .before .before .before .before .before .begins .ensures .named) (c .before .before .before .if2 .left) _ _ _ (c .before .stop .ensures .1) (c .word-at .ensures)
 
 pub found-in-spec : {M : Type 1} → statement M
 found-in-spec =
@@ -46,7 +37,4 @@ found-in-spec =
     slice-aggregate-s
     stop-requires
     word-at-requires
-    same-length
-    same-length-2
-    same-length-3
     returns-3)

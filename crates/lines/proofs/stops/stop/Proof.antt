@@ -1,8 +1,7 @@
 -- `lines::stops::stop` goes the ways that reading goes. Assumes nothing.
-use mathlib.Core.Path.{refl, ap}
-use lib.ListN.{length}
-use native.Mathlib.Omega.{arith}
 use Prim.Native.Nat.{_+_}
+use mathlib.Core.Path.{refl}
+use native.Mathlib.Omega.{arith}
 use Rattle.lines.specs.Key.{keyCount}
 use Rattle.lines.specs.Name.{ends}
 use Rattle.lines.proofs.Forms.{getD-under}
@@ -11,29 +10,29 @@ use borrow.Author.Needs.{needs}
 use Rattle.lines.proofs.stops.stop.Statement.{statement}
 use Rattle.lines.proofs.stops.stop.Tie as tie
 
+slice-aggregate-options : tie.Need-slice-aggregate-options
+slice-aggregate-options c = search needs
+
+slice-aggregate-options-2 : tie.Need-slice-aggregate-options-2
+slice-aggregate-options-2 c = search needs
+
 options-requires : tie.Need-options-requires
-options-requires c κs = (c .before .before .before .before .before .before .before .pre .0, search needs, omega (arith, ap length (c .before .before .before .before .before .before .before .pre .2)), c .before .before .before .before .before .before .before .pre .4)
-
-same-length : tie.Need-same-length
-same-length c = search needs
-
-same-length-2 : tie.Need-same-length-2
-same-length-2 c = search needs
+options-requires c κs = search needs
 
 returns : tie.Need-returns
-returns c = at-setting _ _ _ _ (c .before .before .before .before .before .before .before .before .before .before .before .before .pre .2) (c .before .before .before .before .before .before .before .if1 .taken) _ (c .before .before .before .before .options .ensures .1)
+returns c = at-setting _ _ _ _ refl (c .before .before .before .before .before .if1 .taken) _ (c .before .before .options .ensures .1)
+
+slice-aggregate-arguments : tie.Need-slice-aggregate-arguments
+slice-aggregate-arguments c = search needs
+
+slice-aggregate-arguments-2 : tie.Need-slice-aggregate-arguments-2
+slice-aggregate-arguments-2 c = search needs
 
 arguments-requires : tie.Need-arguments-requires
-arguments-requires c κs = (c .before .before .before .before .before .before .before .pre .0, search needs, omega (arith, ap length (c .before .before .before .before .before .before .before .pre .2)), c .before .before .before .before .before .before .before .pre .3)
-
-same-length-3 : tie.Need-same-length-3
-same-length-3 c = search needs
-
-same-length-4 : tie.Need-same-length-4
-same-length-4 c = search needs
+arguments-requires c κs = search needs
 
 returns-2 : tie.Need-returns-2
-returns-2 c = at-word _ _ _ _ (c .before .before .before .before .before .before .before .before .before .before .before .before .before .pre .2) (c .before .before .before .before .before .before .before .before .if1 .left) _ _ _ _ _ (c .before .before .before .before .before .arguments .ensures) (c .if2 .taken)
+returns-2 c = at-word _ _ _ _ refl (c .before .before .before .before .before .before .if1 .left) _ _ _ _ _ (c .before .before .before .arguments .ensures) (c .if2 .taken)
 
 mul-options : tie.Need-mul-options
 mul-options c = search needs
@@ -41,37 +40,33 @@ mul-options c = search needs
 array-read-options : tie.Need-array-read-options
 array-read-options c = search needs
 
+slice-aggregate-options-3 : tie.Need-slice-aggregate-options-3
+slice-aggregate-options-3 c = search needs
+
+slice-aggregate-options-4 : tie.Need-slice-aggregate-options-4
+slice-aggregate-options-4 c = search needs
+
 options-requires-2 : tie.Need-options-requires-2
-options-requires-2 c κs = (c .before .before .before .before .before .before .before .arguments .ensures .within, omega (arith, getD-under (keyCount + 1) ends (omega arith) tt (c .before .before .before .before .before .before .before .before .before .before .before .before .before .before .before .args .name)), omega (arith, ap length (c .before .before .before .before .before .before .before .before .before .before .before .before .before .before .before .pre .2), c .before .before .before .before .before .before .before .arguments .kept .1 .1 .1 .0), search needs)
-
-same-length-5 : tie.Need-same-length-5
-same-length-5 c = search needs
-
-same-length-6 : tie.Need-same-length-6
-same-length-6 c = search needs
-
-same-length-7 : tie.Need-same-length-7
-same-length-7 c = search needs
+options-requires-2 c κs = (c .before .before .before .before .before .arguments .ensures .within, omega (arith, getD-under (keyCount + 1) ends (omega arith) tt (c .before .before .before .before .before .before .before .before .before .before .args .name)), search needs, search needs)
 
 returns-3 : tie.Need-returns-3
-returns-3 c = at-option _ _ _ _ (c .before .before .before .before .before .before .before .before .before .before .before .before .before .before .before .before .before .before .before .before .pre .2) (c .before .before .before .before .before .before .before .before .before .before .before .before .before .before .before .if1 .left) _ _ _ _ _ (c .before .before .before .before .before .before .before .before .before .before .before .before .arguments .ensures) (c .before .before .before .before .before .before .before .if2 .left) _ refl _ (c .before .before .before .before .options2 .ensures .1)
+returns-3 c = at-option _ _ _ _ refl (c .before .before .before .before .before .before .before .before .before .before .before .if1 .left) _ _ _ _ _ (c .before .before .before .before .before .before .before .before .arguments .ensures) (c .before .before .before .before .before .if2 .left) _ refl _ (c .before .before .options2 .ensures .1)
 
 pub stop-spec : {M : Type 1} → statement M
 stop-spec =
     tie.close
     (tie.spec
+    slice-aggregate-options
+    slice-aggregate-options-2
     options-requires
-    same-length
-    same-length-2
     returns
+    slice-aggregate-arguments
+    slice-aggregate-arguments-2
     arguments-requires
-    same-length-3
-    same-length-4
     returns-2
     mul-options
     array-read-options
+    slice-aggregate-options-3
+    slice-aggregate-options-4
     options-requires-2
-    same-length-5
-    same-length-6
-    same-length-7
     returns-3)
