@@ -4,7 +4,7 @@ ghost use Prim.Native.Nat.{_≤_, _<_};
 ghost use lib.ListN.{length, drop};
 ghost use Rattle.text.specs.Split.{words};
 ghost use Rattle.lines.specs.Call as Call;
-ghost use Rattle.lines.specs.Key.{keyCount, valueCount, unsaid, mostOctets, mostNumbers};
+ghost use Rattle.lines.specs.Key.{keyCount, valueCount, mostOctets, mostNumbers};
 ghost use Rattle.lines.specs.Name.{nameCount};
 use super::Expected;
 use super::LONGEST;
@@ -16,6 +16,7 @@ use super::key;
 use super::key::BUFFER;
 use super::key::KEYS_AT;
 use super::key::MARKS;
+use super::key::VALUES;
 use super::name;
 use super::name::BUFFERS;
 use super::name::ENDS;
@@ -181,21 +182,21 @@ fn read_named(
     name: usize,
     ip: u32,
     port: u16,
-    values: &mut [u64],
     call: &mut [u64],
     octets: &mut [u8],
     numbers: &mut [u32],
 ) -> Read
-    requires { ⌜ (at ≤ length (now s)) × (name < nameCount) × (now values ≡ unsaid) × (length (now call) ≡ 8) × (mostOctets ≤ length (now octets)) × (mostNumbers ≤ length (now numbers)) ⌝ }
+    requires { ⌜ (at ≤ length (now s)) × (name < nameCount) × (length (now call) ≡ 8) × (mostOctets ≤ length (now octets)) × (mostNumbers ≤ length (now numbers)) ⌝ }
     ensures { λ r. ⌜ Call.Named name ip port (now (octets .entry)) (now (numbers .entry)) (words (drop at (now (s .entry)))) r (now (call .exit)) (now (octets .exit)) (now (numbers .exit)) ⌝ }
 {
-    let given = arguments(s, at, name, &mut *values, &mut *octets);
+    let mut values = [0u64; VALUES];
+    let given = arguments(s, at, name, &mut values, &mut *octets);
     let unread = given.unread;
     let start = given.at;
     if unread != ALL_READ {
         return Read::Unread(expected_word(unread));
     }
-    let run = options(s, start, BUFFER, ENDS[name], &mut *values, &mut *numbers);
+    let run = options(s, start, BUFFER, ENDS[name], &mut values, &mut *numbers);
     let took = run.took;
     match took {
         Took::Unknown => return Read::Unread(Expected::End),
@@ -205,8 +206,8 @@ fn read_named(
     if name == name::STATE {
         return Read::State;
     }
-    put_call(name, ip, port, values, call);
-    put_datagram(name, values, octets);
+    put_call(name, ip, port, &values, call);
+    put_datagram(name, &values, octets);
     Read::Call
 }
 
@@ -214,12 +215,11 @@ pub(crate) fn read_line(
     line: &[u8],
     ip: u32,
     port: u16,
-    values: &mut [u64],
     call: &mut [u64],
     octets: &mut [u8],
     numbers: &mut [u32],
 ) -> Read
-    requires { ⌜ (now values ≡ unsaid) × (length (now call) ≡ 8) × (mostOctets ≤ length (now octets)) × (mostNumbers ≤ length (now numbers)) ⌝ }
+    requires { ⌜ (length (now call) ≡ 8) × (mostOctets ≤ length (now octets)) × (mostNumbers ≤ length (now numbers)) ⌝ }
     ensures { λ r. ⌜ Call.Line (now (line .entry)) ip port (now (octets .entry)) (now (numbers .entry)) r (now (call .exit)) (now (octets .exit)) (now (numbers .exit)) ⌝ }
 {
     if line.len() > LONGEST {
@@ -239,5 +239,5 @@ pub(crate) fn read_line(
         return Read::Unread(Expected::Call);
     }
     let s = &line[..text];
-    read_named(s, end, name, ip, port, values, call, octets, numbers)
+    read_named(s, end, name, ip, port, call, octets, numbers)
 }

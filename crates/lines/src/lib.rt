@@ -61,8 +61,7 @@ pub fn read_call(
 ) -> Read
     ensures { λ r. ⌜ Line (now (line .entry)) «radio_ip» port (now (octets .entry)) (now (numbers .entry)) r (now (call .exit)) (now (octets .exit)) (now (numbers .exit)) ⌝ }
 {
-    let mut values = [0u64; key::VALUES];
-    call::read_line(line, radio_ip, port, &mut values, call, octets, numbers)
+    call::read_line(line, radio_ip, port, call, octets, numbers)
 }
 
 // What an `open` asks for. One that can't be read has the settings of an `open` that says none.
@@ -77,9 +76,7 @@ pub struct Opening {
 pub fn read_open(line: &[u8]) -> Opening
     ensures { λ r. ⌜ r ≡ openingOf (now (line .entry)) ⌝ }
 {
-    let mut values = [0u64; key::VALUES];
-    let mut numbers = [0u32; MOST_NUMBERS];
-    open::read_settings(line, &mut values, &mut numbers)
+    open::read_settings(line)
 }
 
 // The word of a line that can't be read, for whoever tells of it. It ends where it starts if the line ends there, or can be read.

@@ -5,10 +5,11 @@ ghost use lib.Ieee.{binary64, ofBits};
 ghost use lib.ListN.{length, drop};
 ghost use Rattle.text.specs.Split.{words};
 ghost use Rattle.tuning.specs.Board.{boardInfo};
-ghost use Rattle.lines.specs.Key.{keyCount, valueCount, unsaid, mostNumbers};
+ghost use Rattle.lines.specs.Key.{keyCount, valueCount};
 ghost use Rattle.lines.specs.Open as Open;
 use super::Expected;
 use super::LONGEST;
+use super::MOST_NUMBERS;
 use super::Opening;
 use super::Read;
 use super::call::or_else;
@@ -120,11 +121,13 @@ fn unread(expected: Expected) -> Opening
 }
 
 // The words after `open`.
-fn opened(s: &[u8], at: usize, values: &mut [u64], numbers: &mut [u32]) -> Opening
-    requires { ⌜ (at ≤ length (now s)) × (now values ≡ unsaid) × (mostNumbers ≤ length (now numbers)) ⌝ }
+fn opened(s: &[u8], at: usize) -> Opening
+    requires { ⌜ at ≤ length (now s) ⌝ }
     ensures { λ r. ⌜ r ≡ Open.openedBy (words (drop at (now (s .entry)))) ⌝ }
 {
-    let run = options(s, at, SETTINGS, KEY_COUNT, &mut *values, &mut *numbers);
+    let mut values = [0u64; VALUES];
+    let mut numbers = [0u32; MOST_NUMBERS];
+    let run = options(s, at, SETTINGS, KEY_COUNT, &mut values, &mut numbers);
     let took = run.took;
     match took {
         Took::Unknown => return unread(Expected::Setting),
@@ -133,13 +136,12 @@ fn opened(s: &[u8], at: usize, values: &mut [u64], numbers: &mut [u32]) -> Openi
     }
     Opening {
         read: Read::Open,
-        at: or_else(values, key::AT, 0),
-        settings: settings_of(values),
+        at: or_else(&values, key::AT, 0),
+        settings: settings_of(&values),
     }
 }
 
-pub(crate) fn read_settings(line: &[u8], values: &mut [u64], numbers: &mut [u32]) -> Opening
-    requires { ⌜ (now values ≡ unsaid) × (mostNumbers ≤ length (now numbers)) ⌝ }
+pub(crate) fn read_settings(line: &[u8]) -> Opening
     ensures { λ r. ⌜ r ≡ Open.openingOf (now (line .entry)) ⌝ }
 {
     if line.len() > LONGEST {
@@ -154,5 +156,5 @@ pub(crate) fn read_settings(line: &[u8], values: &mut [u64], numbers: &mut [u32]
     if first.name != OPEN {
         return unread(Expected::Open);
     }
-    opened(&line[..text], end, values, numbers)
+    opened(&line[..text], end)
 }

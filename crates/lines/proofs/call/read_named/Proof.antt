@@ -1,8 +1,7 @@
 -- `lines::call::read_named` reads the call's words, then its options, and writes what they say. Assumes nothing.
-use mathlib.Core.Path.{refl, ap}
-use lib.ListN.{length}
-use native.Mathlib.Omega.{arith}
 use Prim.Native.Nat.{_+_}
+use mathlib.Core.Path.{refl}
+use native.Mathlib.Omega.{arith}
 use Rattle.lines.specs.Key.{keyCount}
 use Rattle.lines.specs.Name.{ends}
 use Rattle.lines.proofs.Forms.{getD-under}
@@ -12,8 +11,11 @@ use borrow.Author.Needs.{needs}
 use Rattle.lines.proofs.call.read_named.Statement.{statement}
 use Rattle.lines.proofs.call.read_named.Tie as tie
 
+slice-aggregate-arguments : tie.Need-slice-aggregate-arguments
+slice-aggregate-arguments c = search needs
+
 arguments-requires : tie.Need-arguments-requires
-arguments-requires c κs = let l = ap length (c .before .before .before .before .before .before .before .pre .2) in (search needs, search needs, omega (arith, l), search needs)
+arguments-requires c κs = search needs
 
 expected-word-requires : tie.Need-expected-word-requires
 expected-word-requires c κs = search needs
@@ -21,11 +23,8 @@ expected-word-requires c κs = search needs
 same-length : tie.Need-same-length
 same-length c = search needs
 
-same-length-2 : tie.Need-same-length-2
-same-length-2 c = search needs
-
 returns : tie.Need-returns
-returns c = rw (c .expected-word .ensures) (not-read _ _ _ _ _ _ _ _ (c .before .before .before .before .before .before .before .before .before .before .before .before .before .before .pre .2) _ _ _ _ (c .before .before .before .before .before .before .arguments .ensures) (c .before .if1 .taken) _ _ _)
+returns c = rw (c .expected-word .ensures) (not-read _ _ _ _ _ _ _ _ refl _ _ _ _ (c .before .before .before .before .before .arguments .ensures) (c .before .if1 .taken) _ _ _)
 
 mul-options : tie.Need-mul-options
 mul-options c = search needs
@@ -33,14 +32,26 @@ mul-options c = search needs
 array-read-options : tie.Need-array-read-options
 array-read-options c = search needs
 
+slice-aggregate-options : tie.Need-slice-aggregate-options
+slice-aggregate-options c = search needs
+
 options-requires : tie.Need-options-requires
-options-requires c κs = (c .before .before .before .before .before .before .before .arguments .ensures .within, omega (arith, getD-under (keyCount + 1) ends (omega arith) tt (c .before .before .before .before .before .before .before .before .before .before .before .before .before .before .before .args .name)), omega (arith, ap length (c .before .before .before .before .before .before .before .before .before .before .before .before .before .before .before .pre .2), c .before .before .before .before .before .before .before .arguments .kept .1 .1 .1 .0), search needs)
+options-requires c κs = (c .before .before .before .before .before .before .arguments .ensures .within, omega (arith, getD-under (keyCount + 1) ends (omega arith) tt (c .before .before .before .before .before .before .before .before .before .before .before .before .before .args .name)), search needs, search needs)
 
 enum-told : tie.Need-enum-told
 enum-told c = search needs
 
+same-length-2 : tie.Need-same-length-2
+same-length-2 c = search needs
+
 same-length-3 : tie.Need-same-length-3
 same-length-3 c = search needs
+
+returns-2 : tie.Need-returns-2
+returns-2 c = unknown-word _ _ _ _ _ _ _ _ refl _ _ _ _ (c .before .before .before .before .before .before .before .before .before .before .before .before .arguments .ensures) (c .before .before .before .before .before .before .before .before .if1 .left) _ refl _ _ _ (c .before .before .before .before .before .options .ensures .0) (c .enum-told .given .1) _ _ _
+
+enum-known-took : tie.Need-enum-known-took
+enum-known-took c = search needs
 
 same-length-4 : tie.Need-same-length-4
 same-length-4 c = search needs
@@ -48,11 +59,11 @@ same-length-4 c = search needs
 same-length-5 : tie.Need-same-length-5
 same-length-5 c = search needs
 
-returns-2 : tie.Need-returns-2
-returns-2 c = unknown-word _ _ _ _ _ _ _ _ (c .before .before .before .before .before .before .before .before .before .before .before .before .before .before .before .before .before .before .before .before .before .before .pre .2) _ _ _ _ (c .before .before .before .before .before .before .before .before .before .before .before .before .before .before .arguments .ensures) (c .before .before .before .before .before .before .before .before .before .if1 .left) _ refl _ _ _ (c .before .before .before .before .before .before .options .ensures .0) (c .enum-told .given .1) _ _ _
+returns-3 : tie.Need-returns-3
+returns-3 c = unread-value _ _ _ _ _ _ _ _ refl _ _ _ _ (c .before .before .before .before .before .before .before .before .before .before .before .before .before .arguments .ensures) (c .before .before .before .before .before .before .before .before .before .if1 .left) _ refl _ _ _ (c .before .before .before .before .before .before .options .ensures .0) _ (c .before .took .given .1) _ _ _
 
-enum-known-took : tie.Need-enum-known-took
-enum-known-took c = search needs
+enum-told-2 : tie.Need-enum-told-2
+enum-told-2 c = search needs
 
 same-length-6 : tie.Need-same-length-6
 same-length-6 c = search needs
@@ -60,14 +71,23 @@ same-length-6 c = search needs
 same-length-7 : tie.Need-same-length-7
 same-length-7 c = search needs
 
+returns-4 : tie.Need-returns-4
+returns-4 c = state _ _ _ _ _ _ _ _ refl _ _ _ _ (c .before .before .before .before .before .before .before .before .before .before .before .before .before .arguments .ensures) (c .before .before .before .before .before .before .before .before .before .if1 .left) _ refl _ _ _ (c .before .before .before .before .before .before .options .ensures .0) (c .before .enum-told2 .given .1) (c .if2 .taken) _ _ _
+
+slice-aggregate-put-call : tie.Need-slice-aggregate-put-call
+slice-aggregate-put-call c = search needs
+
+put-call-requires : tie.Need-put-call-requires
+put-call-requires c κs = search needs
+
+slice-aggregate-put-datagram : tie.Need-slice-aggregate-put-datagram
+slice-aggregate-put-datagram c = search needs
+
+put-datagram-requires : tie.Need-put-datagram-requires
+put-datagram-requires c κs = (search needs, search needs, small _ _ (held _ 0 0 _ _ _ _ _ refl _ _ _ _ (c .before .before .before .before .before .before .before .before .before .before .before .before .before .before .before .before .before .before .before .before .arguments .ensures) (c .before .before .before .before .before .before .before .before .before .before .before .before .before .before .before .before .if1 .left) _ refl _ _ _ (c .before .before .before .before .before .before .before .before .before .before .before .before .before .options .ensures .0) (c .before .before .before .before .before .before .before .before .enum-told2 .given .1)))
+
 same-length-8 : tie.Need-same-length-8
 same-length-8 c = search needs
-
-returns-3 : tie.Need-returns-3
-returns-3 c = unread-value _ _ _ _ _ _ _ _ (c .before .before .before .before .before .before .before .before .before .before .before .before .before .before .before .before .before .before .before .before .before .before .before .pre .2) _ _ _ _ (c .before .before .before .before .before .before .before .before .before .before .before .before .before .before .before .arguments .ensures) (c .before .before .before .before .before .before .before .before .before .before .if1 .left) _ refl _ _ _ (c .before .before .before .before .before .before .before .options .ensures .0) _ (c .before .took .given .1) _ _ _
-
-enum-told-2 : tie.Need-enum-told-2
-enum-told-2 c = search needs
 
 same-length-9 : tie.Need-same-length-9
 same-length-9 c = search needs
@@ -75,64 +95,39 @@ same-length-9 c = search needs
 same-length-10 : tie.Need-same-length-10
 same-length-10 c = search needs
 
-same-length-11 : tie.Need-same-length-11
-same-length-11 c = search needs
-
-returns-4 : tie.Need-returns-4
-returns-4 c = state _ _ _ _ _ _ _ _ (c .before .before .before .before .before .before .before .before .before .before .before .before .before .before .before .before .before .before .before .before .before .before .before .pre .2) _ _ _ _ (c .before .before .before .before .before .before .before .before .before .before .before .before .before .before .before .arguments .ensures) (c .before .before .before .before .before .before .before .before .before .before .if1 .left) _ refl _ _ _ (c .before .before .before .before .before .before .before .options .ensures .0) (c .before .enum-told2 .given .1) (c .if2 .taken) _ _ _
-
-put-call-requires : tie.Need-put-call-requires
-put-call-requires c κs = (omega (arith, c .before .before .before .before .before .before .before .before .before .before .before .before .before .before .before .before .before .before .before .before .before .before .before .before .before .pre .1), omega (arith, ap length (c .before .before .before .before .before .before .before .before .before .before .before .before .before .before .before .before .before .before .before .before .before .before .before .before .before .pre .2), c .before .before .before .before .before .before .before .before .before .before .before .before .before .before .before .before .before .arguments .kept .1 .1 .1 .0, c .before .before .before .before .before .before .before .before .before .options .kept .1 .1 .1 .1 .0), c .before .before .before .before .before .before .before .before .before .before .before .before .before .before .before .before .before .before .before .before .before .before .before .before .before .pre .3)
-
-put-datagram-requires : tie.Need-put-datagram-requires
-put-datagram-requires c κs = (omega (arith, ap length (c .before .before .before .before .before .before .before .before .before .before .before .before .before .before .before .before .before .before .before .before .before .before .before .before .before .before .before .before .before .before .pre .2), c .before .before .before .before .before .before .before .before .before .before .before .before .before .before .before .before .before .before .before .before .before .before .arguments .kept .1 .1 .1 .0, c .before .before .before .before .before .before .before .before .before .before .before .before .before .before .options .kept .1 .1 .1 .1 .0), omega (arith, c .before .before .before .before .before .before .before .before .before .before .before .before .before .before .before .before .before .before .before .before .before .before .before .before .before .before .before .before .before .before .pre .4, c .before .before .before .before .before .before .before .before .before .before .before .before .before .before .before .before .before .before .before .before .before .before .arguments .kept .1 .1 .1 .1 .0), small _ _ (held _ 0 0 _ _ _ _ _ (c .before .before .before .before .before .before .before .before .before .before .before .before .before .before .before .before .before .before .before .before .before .before .before .before .before .before .before .before .before .before .pre .2) _ _ _ _ (c .before .before .before .before .before .before .before .before .before .before .before .before .before .before .before .before .before .before .before .before .before .before .arguments .ensures) (c .before .before .before .before .before .before .before .before .before .before .before .before .before .before .before .before .before .if1 .left) _ refl _ _ _ (c .before .before .before .before .before .before .before .before .before .before .before .before .before .before .options .ensures .0) (c .before .before .before .before .before .before .before .before .enum-told2 .given .1)))
-
-same-length-12 : tie.Need-same-length-12
-same-length-12 c = search needs
-
-same-length-13 : tie.Need-same-length-13
-same-length-13 c = search needs
-
-same-length-14 : tie.Need-same-length-14
-same-length-14 c = search needs
-
-same-length-15 : tie.Need-same-length-15
-same-length-15 c = search needs
-
 returns-5 : tie.Need-returns-5
-returns-5 c = done _ _ _ _ _ _ _ _ (c .before .before .before .before .before .before .before .before .before .before .before .before .before .before .before .before .before .before .before .before .before .before .before .before .before .before .before .before .before .before .before .before .before .pre .2) _ _ _ _ (c .before .before .before .before .before .before .before .before .before .before .before .before .before .before .before .before .before .before .before .before .before .before .before .before .before .arguments .ensures) (c .before .before .before .before .before .before .before .before .before .before .before .before .before .before .before .before .before .before .before .before .if1 .left) _ refl _ _ _ (c .before .before .before .before .before .before .before .before .before .before .before .before .before .before .before .before .before .options .ensures .0) (c .before .before .before .before .before .before .before .before .before .before .before .enum-told2 .given .1) (c .before .before .before .before .before .before .before .before .before .before .if2 .left) (c .before .before .before .before .before .before .before .before .before .before .before .before .before .before .before .before .before .before .before .before .before .before .before .before .before .before .before .before .before .before .before .before .before .fits .ip .fits) _ _ (c .before .before .before .before .before .before .before .put-call .ensures) (c .before .before .put-datagram .ensures)
+returns-5 c = done _ _ _ _ _ _ _ _ refl _ _ _ _ (c .before .before .before .before .before .before .before .before .before .before .before .before .before .before .before .before .before .before .before .before .before .before .before .arguments .ensures) (c .before .before .before .before .before .before .before .before .before .before .before .before .before .before .before .before .before .before .before .if1 .left) _ refl _ _ _ (c .before .before .before .before .before .before .before .before .before .before .before .before .before .before .before .before .options .ensures .0) (c .before .before .before .before .before .before .before .before .before .before .before .enum-told2 .given .1) (c .before .before .before .before .before .before .before .before .before .before .if2 .left) (c .before .before .before .before .before .before .before .before .before .before .before .before .before .before .before .before .before .before .before .before .before .before .before .before .before .before .before .before .before .before .fits .ip .fits) _ _ (c .before .before .before .before .before .before .before .put-call .ensures) (c .before .before .put-datagram .ensures)
 
 pub read-named-spec : {M : Type 1} → statement M
 read-named-spec =
     tie.close
     (tie.spec
+    slice-aggregate-arguments
     arguments-requires
     expected-word-requires
     same-length
-    same-length-2
     returns
     mul-options
     array-read-options
+    slice-aggregate-options
     options-requires
     enum-told
+    same-length-2
     same-length-3
-    same-length-4
-    same-length-5
     returns-2
     enum-known-took
-    same-length-6
-    same-length-7
-    same-length-8
+    same-length-4
+    same-length-5
     returns-3
     enum-told-2
+    same-length-6
+    same-length-7
+    returns-4
+    slice-aggregate-put-call
+    put-call-requires
+    slice-aggregate-put-datagram
+    put-datagram-requires
+    same-length-8
     same-length-9
     same-length-10
-    same-length-11
-    returns-4
-    put-call-requires
-    put-datagram-requires
-    same-length-12
-    same-length-13
-    same-length-14
-    same-length-15
     returns-5)

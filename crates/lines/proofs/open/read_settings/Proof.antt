@@ -28,19 +28,13 @@ returns-3 : tie.Need-returns-3
 returns-3 c = c .unread3 .ensures ∙ not-open _ (c .before .before .before .before .before .before .if1 .left) _ (c .before .before .before .before .before .begins .ensures .cut) _ _ (c .before .before .before .before .before .begins .ensures .word) (c .before .before .before .if2 .left) _ (c .before .before .before .before .before .begins .ensures .named) (c .before .if3 .taken)
 
 slice-aggregate-opened : tie.Need-slice-aggregate-opened
-slice-aggregate-opened c = sym (length-take-le (c .before .before .before .before .before .begins .result .text) (c .before .before .before .before .before .before .before .before .before .before .args .line .now) (c .before .before .before .before .before .begins .ensures .within))
+slice-aggregate-opened c = sym (length-take-le (c .before .before .before .before .before .begins .result .text) (c .before .before .before .before .before .before .before .before .args .line .now) (c .before .before .before .before .before .begins .ensures .within))
 
 opened-requires : tie.Need-opened-requires
 opened-requires c κs = search needs
 
-same-length : tie.Need-same-length
-same-length c = search needs
-
-same-length-2 : tie.Need-same-length-2
-same-length-2 c = search needs
-
 returns-4 : tie.Need-returns-4
-returns-4 c = c .before .before .before .before .opened .ensures ∙ is-open _ (c .before .before .before .before .before .before .before .before .before .before .before .before .before .if1 .left) _ (c .before .before .before .before .before .before .before .before .before .before .before .before .begins .ensures .cut) _ _ (c .before .before .before .before .before .before .before .before .before .before .before .before .begins .ensures .word) (c .before .before .before .before .before .before .before .before .before .before .if2 .left) _ (c .before .before .before .before .before .before .before .before .before .before .before .before .begins .ensures .named) (c .before .before .before .before .before .before .before .before .if3 .left)
+returns-4 c = c .opened .ensures ∙ is-open _ (c .before .before .before .before .before .before .before .if1 .left) _ (c .before .before .before .before .before .before .begins .ensures .cut) _ _ (c .before .before .before .before .before .before .begins .ensures .word) (c .before .before .before .before .if2 .left) _ (c .before .before .before .before .before .before .begins .ensures .named) (c .before .before .if3 .left)
 
 pub read-settings-spec : {M : Type 1} → statement M
 read-settings-spec =
@@ -55,6 +49,4 @@ read-settings-spec =
     returns-3
     slice-aggregate-opened
     opened-requires
-    same-length
-    same-length-2
     returns-4)
