@@ -1,14 +1,13 @@
 -- A call by its name, and a line: what each way through gives. Assumes nothing.
-use mathlib.Core.Path.{_≡_, refl, sym, ap, _∙_}
-use mathlib.Core.List.{List, [], _∷_, _++_}
+use mathlib.Core.Path.{_≡_, sym, ap, _∙_}
+use mathlib.Core.List.{List, [], _∷_}
 use Prim.Native.Nat.{ℕ, _+_, _≤_, _<_}
 use native.Mathlib.Omega.{arith}
 use borrow.Author.Tests.{lt-ltb, le-ltb, le-leb, lt-leb, eq-eqb, ne-eqb}
 use lib.Dec.{eqb}
-use lib.ListN.{length, drop, getD, drop-of-length-le}
+use lib.ListN.{length, drop, getD}
 use Rattle.base.specs.Pick.{pick}
 use Rattle.base.proofs.Picks.{pick-t, pick-f}
-use Rattle.octets.proofs.Writes.{stores, stores-written, written-front}
 use Rattle.text.specs.Name.{place}
 use Rattle.text.specs.Split.{words, part, WordAt}
 use Rattle.text.proofs.Splits.{no-word, one-word}
@@ -25,13 +24,6 @@ use Rattle.lines.specs.Option.{optionsTook, optionsValues, optionsNumber
 use Rattle.lines.specs.Call.{expectedWord, optioned, argumentsOf, optionsOf, readNamed, readWords, wordsOf, longest, readLine, valuesOf, callOf, octetsOf, Named, nameOf, after, Line}
 use Rattle.lines.proofs.Forms.{getD-under}
 use Rattle.lines.proofs.Bounds.{Held, held-options, held-form, fit}
-
--- eight stores in a list of eight are the list
-pub eight-stores : (l : List ℕ) (a b c d e f g h : ℕ) → length l ≡ 8
-    → stores l 0 (a ∷ b ∷ c ∷ d ∷ e ∷ f ∷ g ∷ h ∷ []) ≡ a ∷ b ∷ c ∷ d ∷ e ∷ f ∷ g ∷ h ∷ []
-eight-stores l a b c d e f g h n =
-    let out = a ∷ b ∷ c ∷ d ∷ e ∷ f ∷ g ∷ h ∷ [] in
-    stores-written l 0 out (omega arith) ∙ written-front l out 8 refl ∙ ap (λ (x : List ℕ). out ++ x) (drop-of-length-le l {i = 8} (omega arith))
 
 module _ (name ip port : ℕ) (s l d n : List ℕ) (ws : List (List ℕ)) (u : l ≡ unsaid) (r at : ℕ) (m e : List ℕ) (g : Arguments (form name) s l d ws r at m e) where
   pub not-read : (r ≡ allRead → ⊥) → (c x y : List ℕ) → Named name ip port d n ws (Read.Unread (expectedWord r)) c x y

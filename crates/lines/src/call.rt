@@ -137,9 +137,9 @@ fn places_of(name: usize, values: &[u64]) -> u64
     or_else(values, BUFFER, BUFFERS[name])
 }
 
-fn put_call(name: usize, ip: u32, port: u16, values: &[u64], call: &mut [u64])
-    requires { ⌜ (name < nameCount) × (valueCount ≤ length (now values)) × (length (now call) ≡ 8) ⌝ }
-    ensures { λ r. ⌜ now (call .exit) ≡ Call.callOf name ip port (now (values .entry)) ⌝ }
+fn call_of(name: usize, ip: u32, port: u16, values: &[u64]) -> [u64; 8]
+    requires { ⌜ (name < nameCount) × (valueCount ≤ length (now values)) ⌝ }
+    ensures { λ r. ⌜ r ≡ Call.callOf name ip port (now (values .entry)) ⌝ }
 {
     let kind = KINDS[name];
     let reading = values[key::FIRST_WORD];
@@ -149,14 +149,7 @@ fn put_call(name: usize, ip: u32, port: u16, values: &[u64], call: &mut [u64])
     let count = count_of(name, values);
     let waiting = values[KEYS_AT + key::WAITING];
     let places = places_of(name, values);
-    call[0] = kind;
-    call[1] = reading;
-    call[2] = later;
-    call[3] = address;
-    call[4] = from;
-    call[5] = count;
-    call[6] = waiting;
-    call[7] = places;
+    [kind, reading, later, address, from, count, waiting, places]
 }
 
 // The datagram of an `iq` or a `status` line; that of `datagram` is there.
@@ -182,11 +175,11 @@ fn read_named(
     name: usize,
     ip: u32,
     port: u16,
-    call: &mut [u64],
+    call: &mut [u64; 8],
     octets: &mut [u8],
     numbers: &mut [u32],
 ) -> Read
-    requires { ⌜ (at ≤ length (now s)) × (name < nameCount) × (length (now call) ≡ 8) × (mostOctets ≤ length (now octets)) × (mostNumbers ≤ length (now numbers)) ⌝ }
+    requires { ⌜ (at ≤ length (now s)) × (name < nameCount) × (mostOctets ≤ length (now octets)) × (mostNumbers ≤ length (now numbers)) ⌝ }
     ensures { λ r. ⌜ Call.Named name ip port (now (octets .entry)) (now (numbers .entry)) (words (drop at (now (s .entry)))) r (now (call .exit)) (now (octets .exit)) (now (numbers .exit)) ⌝ }
 {
     let mut values = [0u64; VALUES];
@@ -206,7 +199,7 @@ fn read_named(
     if name == name::STATE {
         return Read::State;
     }
-    put_call(name, ip, port, &values, call);
+    *call = call_of(name, ip, port, &values);
     put_datagram(name, &values, octets);
     Read::Call
 }
@@ -215,11 +208,11 @@ pub(crate) fn read_line(
     line: &[u8],
     ip: u32,
     port: u16,
-    call: &mut [u64],
+    call: &mut [u64; 8],
     octets: &mut [u8],
     numbers: &mut [u32],
 ) -> Read
-    requires { ⌜ (length (now call) ≡ 8) × (mostOctets ≤ length (now octets)) × (mostNumbers ≤ length (now numbers)) ⌝ }
+    requires { ⌜ (mostOctets ≤ length (now octets)) × (mostNumbers ≤ length (now numbers)) ⌝ }
     ensures { λ r. ⌜ Call.Line (now (line .entry)) ip port (now (octets .entry)) (now (numbers .entry)) r (now (call .exit)) (now (octets .exit)) (now (numbers .exit)) ⌝ }
 {
     if line.len() > LONGEST {

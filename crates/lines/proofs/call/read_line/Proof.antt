@@ -22,7 +22,7 @@ returns-4 : tie.Need-returns-4
 returns-4 c = not-a-call _ _ _ _ _ _ _ _ (c .before .before .before .before .before .if1 .left) _ (c .before .before .before .before .begins .ensures .cut) _ _ (c .before .before .before .before .begins .ensures .word) (c .before .before .if2 .left) _ (c .before .before .before .before .begins .ensures .named) (c .if4 .taken)
 
 slice-aggregate-s : tie.Need-slice-aggregate-s
-slice-aggregate-s c = sym (length-take-le (c .before .before .before .before .before .begins .result .text) (c .before .before .before .before .before .before .before .before .before .before .before .args .line .now) (c .before .before .before .before .before .begins .ensures .within))
+slice-aggregate-s c = sym (length-take-le (c .before .before .before .before .before .begins .result .text) (c .before .before .before .before .before .before .before .before .before .before .args .line .now) (c .before .before .before .before .before .begins .ensures .within))
 
 read-named-requires : tie.Need-read-named-requires
 read-named-requires c κs = search needs
@@ -33,11 +33,8 @@ same-length c = search needs
 same-length-2 : tie.Need-same-length-2
 same-length-2 c = search needs
 
-same-length-3 : tie.Need-same-length-3
-same-length-3 c = search needs
-
 returns-5 : tie.Need-returns-5
-returns-5 c = called _ _ _ _ _ _ _ _ (c .before .before .before .before .before .before .before .before .before .before .before .before .before .before .before .before .if1 .left) _ (c .before .before .before .before .before .before .before .before .before .before .before .before .before .before .before .begins .ensures .cut) _ _ (c .before .before .before .before .before .before .before .before .before .before .before .before .before .before .before .begins .ensures .word) (c .before .before .before .before .before .before .before .before .before .before .before .before .before .if2 .left) _ (c .before .before .before .before .before .before .before .before .before .before .before .before .before .before .before .begins .ensures .named) (c .before .before .before .before .before .before .before .before .before .before .before .before .if3 .left) (c .before .before .before .before .before .before .before .before .before .before .before .if4 .left) _ (c .before .before .before .before .before .before .read-named .ensures)
+returns-5 c = called _ _ _ _ _ _ _ _ (c .before .before .before .before .before .before .before .before .before .before .before .before .before .before .if1 .left) _ (c .before .before .before .before .before .before .before .before .before .before .before .before .before .begins .ensures .cut) _ _ (c .before .before .before .before .before .before .before .before .before .before .before .before .before .begins .ensures .word) (c .before .before .before .before .before .before .before .before .before .before .before .if2 .left) _ (c .before .before .before .before .before .before .before .before .before .before .before .before .before .begins .ensures .named) (c .before .before .before .before .before .before .before .before .before .before .if3 .left) (c .before .before .before .before .before .before .before .before .before .if4 .left) _ (c .before .before .before .before .read-named .ensures)
 
 pub read-line-spec : {M : Type 1} → statement M
 read-line-spec =
@@ -52,5 +49,4 @@ read-line-spec =
     read-named-requires
     same-length
     same-length-2
-    same-length-3
     returns-5)

@@ -36,7 +36,7 @@ slice-aggregate-options : tie.Need-slice-aggregate-options
 slice-aggregate-options c = search needs
 
 options-requires : tie.Need-options-requires
-options-requires c κs = (c .before .before .before .before .before .before .arguments .ensures .within, omega (arith, getD-under (keyCount + 1) ends (omega arith) tt (c .before .before .before .before .before .before .before .before .before .before .before .before .before .args .name)), search needs, search needs)
+options-requires c κs = (c .before .before .before .before .before .before .arguments .ensures .within, omega (arith, getD-under (keyCount + 1) ends (omega arith) tt (c .before .before .before .before .before .before .before .before .before .before .before .before .args .name)), search needs, search needs)
 
 enum-told : tie.Need-enum-told
 enum-told c = search needs
@@ -74,17 +74,17 @@ same-length-7 c = search needs
 returns-4 : tie.Need-returns-4
 returns-4 c = state _ _ _ _ _ _ _ _ refl _ _ _ _ (c .before .before .before .before .before .before .before .before .before .before .before .before .before .arguments .ensures) (c .before .before .before .before .before .before .before .before .before .if1 .left) _ refl _ _ _ (c .before .before .before .before .before .before .options .ensures .0) (c .before .enum-told2 .given .1) (c .if2 .taken) _ _ _
 
-slice-aggregate-put-call : tie.Need-slice-aggregate-put-call
-slice-aggregate-put-call c = search needs
+slice-aggregate-call-of : tie.Need-slice-aggregate-call-of
+slice-aggregate-call-of c = search needs
 
-put-call-requires : tie.Need-put-call-requires
-put-call-requires c κs = search needs
+call-of-requires : tie.Need-call-of-requires
+call-of-requires c κs = search needs
 
 slice-aggregate-put-datagram : tie.Need-slice-aggregate-put-datagram
 slice-aggregate-put-datagram c = search needs
 
 put-datagram-requires : tie.Need-put-datagram-requires
-put-datagram-requires c κs = (search needs, search needs, small _ _ (held _ 0 0 _ _ _ _ _ refl _ _ _ _ (c .before .before .before .before .before .before .before .before .before .before .before .before .before .before .before .before .before .before .before .before .arguments .ensures) (c .before .before .before .before .before .before .before .before .before .before .before .before .before .before .before .before .if1 .left) _ refl _ _ _ (c .before .before .before .before .before .before .before .before .before .before .before .before .before .options .ensures .0) (c .before .before .before .before .before .before .before .before .enum-told2 .given .1)))
+put-datagram-requires c κs = (search needs, search needs, small _ _ (held _ 0 0 _ _ _ _ _ refl _ _ _ _ (c .before .before .before .before .before .before .before .before .before .before .before .before .before .before .before .before .before .arguments .ensures) (c .before .before .before .before .before .before .before .before .before .before .before .before .before .if1 .left) _ refl _ _ _ (c .before .before .before .before .before .before .before .before .before .before .options .ensures .0) (c .before .before .before .before .before .enum-told2 .given .1)))
 
 same-length-8 : tie.Need-same-length-8
 same-length-8 c = search needs
@@ -92,11 +92,8 @@ same-length-8 c = search needs
 same-length-9 : tie.Need-same-length-9
 same-length-9 c = search needs
 
-same-length-10 : tie.Need-same-length-10
-same-length-10 c = search needs
-
 returns-5 : tie.Need-returns-5
-returns-5 c = done _ _ _ _ _ _ _ _ refl _ _ _ _ (c .before .before .before .before .before .before .before .before .before .before .before .before .before .before .before .before .before .before .before .before .before .before .before .arguments .ensures) (c .before .before .before .before .before .before .before .before .before .before .before .before .before .before .before .before .before .before .before .if1 .left) _ refl _ _ _ (c .before .before .before .before .before .before .before .before .before .before .before .before .before .before .before .before .options .ensures .0) (c .before .before .before .before .before .before .before .before .before .before .before .enum-told2 .given .1) (c .before .before .before .before .before .before .before .before .before .before .if2 .left) (c .before .before .before .before .before .before .before .before .before .before .before .before .before .before .before .before .before .before .before .before .before .before .before .before .before .before .before .before .before .before .fits .ip .fits) _ _ (c .before .before .before .before .before .before .before .put-call .ensures) (c .before .before .put-datagram .ensures)
+returns-5 c = done _ _ _ _ _ _ _ _ refl _ _ _ _ (c .before .before .before .before .before .before .before .before .before .before .before .before .before .before .before .before .before .before .before .before .arguments .ensures) (c .before .before .before .before .before .before .before .before .before .before .before .before .before .before .before .before .if1 .left) _ refl _ _ _ (c .before .before .before .before .before .before .before .before .before .before .before .before .before .options .ensures .0) (c .before .before .before .before .before .before .before .before .enum-told2 .given .1) (c .before .before .before .before .before .before .before .if2 .left) (c .before .before .before .before .before .before .before .before .before .before .before .before .before .before .before .before .before .before .before .before .before .before .before .before .before .before .fits .ip .fits) _ _ (c .before .before .before .before .before .call-of .ensures) (c .before .before .put-datagram .ensures)
 
 pub read-named-spec : {M : Type 1} → statement M
 read-named-spec =
@@ -123,11 +120,10 @@ read-named-spec =
     same-length-6
     same-length-7
     returns-4
-    slice-aggregate-put-call
-    put-call-requires
+    slice-aggregate-call-of
+    call-of-requires
     slice-aggregate-put-datagram
     put-datagram-requires
     same-length-8
     same-length-9
-    same-length-10
     returns-5)
