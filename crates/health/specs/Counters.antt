@@ -1,5 +1,6 @@
 -- The counts of a session, each modulo 2^64. Definitions only.
 use Prim.Native.Nat.{ℕ, _+_, _*_, _%_, _^_}
+use Rattle.stream.specs.Size.{perDatagram}
 use Rattle.health.specs.declared.InputHealthCounters.{InputHealthCounters}
 
 abbrev pub noneCounted : InputHealthCounters
@@ -19,4 +20,4 @@ countMalformed c =
 
 -- the loss total, added by us: 238 × dropped, modulo 2^64
 unfoldable pub lossTotal : InputHealthCounters → ℕ
-lossTotal c = 238 * c .«dropped_packets» % 2 ^ 64
+lossTotal c = perDatagram * c .«dropped_packets» % 2 ^ 64

@@ -1,9 +1,7 @@
 // The counts of a session: datagrams lost, gaps, and malformed datagrams, each modulo 2^64. 01, The session.
 ghost use mathlib.Core.Path.{_≡_};
 ghost use Rattle.health.specs.Counters.{noneCounted, countDropped, countGap, countMalformed, lossTotal};
-
-// I/Q pairs in a datagram.
-const SAMPLES_PER_DATAGRAM: u64 = 238;
+use stream::SAMPLES_PER_DATAGRAM;
 
 // 2^56: the weight of a u64's highest octet.
 const EIGHTH_OCTET: u64 = 72_057_594_037_927_936;

@@ -6,6 +6,7 @@ use mathlib.Core.List.{List, [], _∷_}
 use lib.ListN.{length}
 use lib.Dec.{ltb, leb, eqb}
 use lib.Ieee.{Float, binary32, round}
+use Rattle.stream.specs.Size.{perDatagram}
 use Rattle.base.specs.Pick.{pick}
 use Rattle.octets.specs.Table.{tab}
 use Rattle.octets.specs.Number.{beAt}
@@ -38,7 +39,7 @@ unfoldable pub rows : List ℕ → Told → Told
 rows b then =
     pick (not (eqb (length b) 1444)) (refused 7 (length b ∷ []))
     (pick (not (eqb (beAt 2 b 12) 24)) (refused 8 (beAt 2 b 12 ∷ []))
-    (pick (not (eqb (beAt 2 b 14) 238)) (refused 9 (beAt 2 b 14 ∷ []))
+    (pick (not (eqb (beAt 2 b 14) perDatagram)) (refused 9 (beAt 2 b 14 ∷ []))
     then))
 
 unfoldable pub headerTold : List ℕ → Told

@@ -4,6 +4,7 @@ use mathlib.Core.Path.{_≡_}
 use mathlib.Core.List.{List, [], _∷_}
 use lib.Dec.{ltb, leb, eqb}
 use lib.ListN.{length, drop, getD}
+use Rattle.stream.specs.Size.{perDatagram}
 use Rattle.base.specs.Pick.{pick}
 use Rattle.octets.specs.Written.{written}
 use Rattle.text.specs.Name.{place}
@@ -113,14 +114,14 @@ callOf name ip port l =
 -- the lent octets after it: those of `datagram` are written as they are read
 unfoldable pub octetsOf : ℕ → List ℕ → List ℕ → List ℕ
 octetsOf name l d =
-    pick (eqb name iqName) (written d 0 (iqOctets (getD l thirdWord 0) (orElse l bitsKey 24) (orElse l samplesKey 238)))
+    pick (eqb name iqName) (written d 0 (iqOctets (getD l thirdWord 0) (orElse l bitsKey 24) (orElse l samplesKey perDatagram)))
     (pick (eqb name statusName) (written d 0 (statusOctets (getD l thirdWord 0)))
     d)
 
 -- what the octets of a datagram are made from fits their fields
 abbrev pub Small : ℕ → List ℕ → Type 0
 Small name l =
-    (name ≡ iqName → getD l thirdWord 0 < 4294967296) × (name ≡ statusName → getD l thirdWord 0 < 256) × (orElse l bitsKey 24 < 65536) × (orElse l samplesKey 238 < 65536)
+    (name ≡ iqName → getD l thirdWord 0 < 4294967296) × (name ≡ statusName → getD l thirdWord 0 < 256) × (orElse l bitsKey 24 < 65536) × (orElse l samplesKey perDatagram < 65536)
 
 -- what a caller can go by: the kind, the address, the port, and lengths within the lent buffers
 pub record Fit (c : List ℕ) : Type 0 where

@@ -28,8 +28,8 @@ use super::option::options;
 use stream::SAMPLES_PER_DATAGRAM;
 use values::datagram::put_iq;
 use values::datagram::put_status;
-use wire::iq::BITS_PER_SAMPLE;
-use wire::iq::IQ_DATAGRAM_LEN;
+use stream::BITS_PER_SAMPLE;
+use iq::IQ_DATAGRAM_LEN;
 use wire::status::STATUS_LEN;
 
 // What an `iq` line's options are where they are left out.

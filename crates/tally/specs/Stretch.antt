@@ -1,6 +1,7 @@
 -- The account of a stretch, arrival by arrival. Definitions only.
 use Prim.Native.Nat.{ℕ, _+_, _-_, _*_, _%_, _≤_}
 use mathlib.Core.Path.{_≡_}
+use Rattle.stream.specs.Size.{perDatagram}
 use Rattle.tally.specs.declared.Stretch.{Stretch}
 use Rattle.tally.specs.declared.Sums.{Sums}
 
@@ -14,7 +15,7 @@ above number highest = (number + 0x1_0000_0000 - highest % 0x1_0000_0000) % 0x1_
 
 -- the first arrival: its missing is the restart's
 unfoldable pub firstOf : ℕ → ℕ → ℕ → Stretch
-firstOf at number restart = record { at = at; last = at; first = number; restart = restart; highest = number; samples = 238; missing = 0 }
+firstOf at number restart = record { at = at; last = at; first = number; restart = restart; highest = number; samples = perDatagram; missing = 0 }
 
 -- an accepted arrival more, by its reading, its number and the missing told with it
 unfoldable pub moreOf : Stretch → ℕ → ℕ → ℕ → Stretch
@@ -25,7 +26,7 @@ moreOf s reading number missing =
       first = s .first;
       restart = s .restart;
       highest = sum (s .highest) (above number (s .highest));
-      samples = sum (s .samples) 238;
+      samples = sum (s .samples) perDatagram;
       missing = sum (s .missing) missing;
     }
 
@@ -36,4 +37,4 @@ plusOf t s =
 -- demand 3's sum, of a stretch as it is told
 pub record Even (s : Stretch) : Type 0 where
   pub rises : s .first ≤ s .highest
-  pub adds : s .samples + s .missing ≡ 238 * (s .highest - s .first + 1)
+  pub adds : s .samples + s .missing ≡ perDatagram * (s .highest - s .first + 1)

@@ -3,9 +3,7 @@ ghost use mathlib.Core.Path.{_≡_};
 ghost use Rattle.tally.specs.Stretch.{firstOf, moreOf, plusOf};
 use std::num::wrapping_add_u64;
 use std::num::wrapping_sub_u32;
-
-// The samples of a datagram.
-const SAMPLES_PER_DATAGRAM: u64 = 238;
+use stream::SAMPLES_PER_DATAGRAM;
 
 // It begins with the session's first arrival, or with one told Restart.
 pub struct Stretch {

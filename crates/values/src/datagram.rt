@@ -4,14 +4,15 @@ ghost use Prim.Native.Nat.{_≤_};
 ghost use lib.ListN.{length};
 ghost use Rattle.octets.specs.Written.{written};
 ghost use Rattle.values.specs.Datagram.{pairs, iqOctets, statusOctets};
+use stream::SAMPLES_PER_DATAGRAM;
 
 fn put_pairs(p: &mut [u8], number: u32)
     requires { ⌜ 1444 ≤ length (now p) ⌝ }
     ensures { λ r. ⌜ now (p .exit) ≡ written (now (p .entry)) 16 (pairs number 238) ⌝ }
 {
-    let first = number as u64 * 238;
+    let first = number as u64 * SAMPLES_PER_DATAGRAM;
     let mut j: u64 = 0;
-    while j < 238 {
+    while j < SAMPLES_PER_DATAGRAM {
         let i = ((first + j) % 16777216) as u32;
         let at = 16 + 6 * j as usize;
         octets::put_u24(p, at, i);
