@@ -83,7 +83,11 @@ unfoldable pub laterOf : ℕ → List ℕ → ℕ
 laterOf name l = pick (eqb name takeName) 0 (getD l secondWord 0)
 
 unfoldable pub addressOf : ℕ → ℕ → List ℕ → ℕ
-addressOf name ip l = pick (eqb name datagramName) (getD l thirdWord 0 / 65536) (pick (eqb name iqName) ip (pick (eqb name statusName) ip 0))
+addressOf name ip l =
+    pick (eqb name datagramName) (getD l thirdWord 0 / 65536)
+    (pick (eqb name iqName) ip
+    (pick (eqb name statusName) ip
+    0))
 
 unfoldable pub portOf : ℕ → ℕ → List ℕ → ℕ
 portOf name port l =
@@ -93,7 +97,11 @@ portOf name port l =
     0))
 
 unfoldable pub countOf : ℕ → List ℕ → ℕ
-countOf name l = pick (eqb name iqName) (orElse l lengthKey 1444) (pick (eqb name statusName) 60 (pick (eqb name datagramName) (getD l fourthWord 0) 0))
+countOf name l =
+    pick (eqb name iqName) (orElse l lengthKey 1444)
+    (pick (eqb name statusName) 60
+    (pick (eqb name datagramName) (getD l fourthWord 0)
+    0))
 
 unfoldable pub placesOf : ℕ → List ℕ → ℕ
 placesOf name l = pick (eqb name takeName) (getD l secondWord 0) (orElse l bufferKey (getD buffers name 0))
@@ -121,7 +129,10 @@ octetsOf name l d =
 -- what the octets of a datagram are made from fits their fields
 abbrev pub Small : ℕ → List ℕ → Type 0
 Small name l =
-    (name ≡ iqName → getD l thirdWord 0 < 4294967296) × (name ≡ statusName → getD l thirdWord 0 < 256) × (orElse l bitsKey 24 < 65536) × (orElse l samplesKey perDatagram < 65536)
+    (name ≡ iqName → getD l thirdWord 0 < 4294967296)
+    × (name ≡ statusName → getD l thirdWord 0 < 256)
+    × (orElse l bitsKey 24 < 65536)
+    × (orElse l samplesKey perDatagram < 65536)
 
 -- what a caller can go by: the kind, the address, the port, and lengths within the lent buffers
 pub record Fit (c : List ℕ) : Type 0 where

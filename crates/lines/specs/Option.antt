@@ -1,4 +1,4 @@
--- Options, key=value: the keys, what each takes, and what a run of them leaves. Definitions only.
+-- Options, key=value: what each key takes, and what a run of them leaves. Definitions only.
 use Prim.Native.Nat.{ℕ, _+_, _≤_}
 use mathlib.Core.Path.{_≡_}
 use mathlib.Core.Bool.{Bool}
@@ -64,7 +64,8 @@ spellings =
     ∷ asNumber
     ∷ []
 
--- the most that it can be: of a board 256 is `skipped`, of an attenuation 0 is off, 1 on and 2 unsaid, of waiting numbers it is how many
+-- the most that it can be, by key: of a board 256 is `skipped`, of an attenuation 0 is off, 1 on and 2 unsaid, of waiting numbers it is
+-- how many they are
 abbrev pub limits : List ℕ
 limits =
     8192
