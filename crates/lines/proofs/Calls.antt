@@ -17,15 +17,15 @@ use Rattle.lines.specs.declared.Read.{Read}
 use Rattle.lines.specs.declared.Read.the-variants as Read
 use Rattle.lines.specs.declared.option.Took.{Took}
 use Rattle.lines.specs.declared.option.Took.the-variants.{Taken, Unknown, Unreadable}
-use Rattle.lines.specs.Key.{bufferKey, keyCount, wordsAt, unsaid}
+use Rattle.lines.specs.Key.{bufferKey, keyCount, unsaid}
 use Rattle.lines.specs.Name.{names, stateName, openName, nameCount, ends, textOf}
-use Rattle.lines.specs.Argument.{allRead, form, argumentValues, argumentOctets, Arguments}
+use Rattle.lines.specs.Argument.{allRead, form, argumentOctets, Arguments}
 use Rattle.lines.specs.Option.{optionsTook, optionsValues, optionsNumbers, Ran}
 use Rattle.lines.specs.Call.{expectedWord, optioned, argumentsOf, optionsOf, readNamed, readWords, wordsOf, longest, readLine, valuesOf, callOf, octetsOf, Named, nameOf, after, Line}
 use Rattle.lines.proofs.Forms.{getD-under}
 use Rattle.lines.proofs.Bounds.{Held, held-options, held-form, fit}
 
-module _ (name ip port : ℕ) (s l d n : List ℕ) (ws : List (List ℕ)) (u : l ≡ unsaid) (r at : ℕ) (m e : List ℕ) (g : Arguments (form name) s l d ws r at m e) where
+module _ (name ip port : ℕ) (s d n : List ℕ) (ws : List (List ℕ)) (r at : ℕ) (m e : List ℕ) (g : Arguments (form name) s unsaid d ws r at m e) where
   pub not-read : (r ≡ allRead → ⊥) → (c x y : List ℕ) → Named name ip port d n ws (Read.Unread (expectedWord r)) c x y
   unfolding readNamed
   not-read h c x y =
@@ -41,7 +41,7 @@ module _ (name ip port : ℕ) (s l d n : List ℕ) (ws : List (List ℕ)) (u : l
 
   module _ (h : r ≡ allRead) (to : ℕ) (k : to ≡ getD ends name 0) (q : Took) (m2 n2 : List ℕ) (o : Ran bufferKey to m n (words (drop at s)) q m2 n2) where
     values-here : m ≡ argumentsOf name ws
-    values-here = g .values h ∙ ap (argumentValues wordsAt (form name) ws) u
+    values-here = g .values h
 
     told-here : optioned q Expected.End (pick (eqb name stateName) Read.State Read.Call) ≡ readNamed name ws
     unfolding readNamed

@@ -54,10 +54,10 @@ centre-bits = refl
 
 -- ---- the words after `open`
 
-module _ (l n : List ℕ) (ws : List (List ℕ)) (u : l ≡ unsaid) (q : Took) (m e : List ℕ) (o : Ran settings keyCount l n ws q m e) where
+module _ (n : List ℕ) (ws : List (List ℕ)) (q : Took) (m e : List ℕ) (o : Ran settings keyCount unsaid n ws q m e) where
   by : opened q (optionsValues unsaid ws) ≡ openedBy ws
   unfolding openedBy
-  by = ap (λ (x : Took). opened x (optionsValues unsaid ws)) (o .told ∙ ap (λ (x : List ℕ). optionsTook settings keyCount x ws) u)
+  by = ap (λ (x : Took). opened x (optionsValues unsaid ws)) (o .told)
 
   pub not-a-setting : q ≡ Unknown → unreadOpening Expected.Setting ≡ openedBy ws
   unfolding opened
@@ -69,7 +69,7 @@ module _ (l n : List ℕ) (ws : List (List ℕ)) (u : l ≡ unsaid) (q : Took) (
 
   module _ (t : q ≡ Taken) where
     values-then : m ≡ optionsValues unsaid ws
-    values-then = o .values t ∙ ap (λ (x : List ℕ). optionsValues x ws) u
+    values-then = o .values t
 
     pub all-said : _≡_ {A = Opening} (record { read = Read.Open; at = orElse m atKey 0; settings = settingsOf m }) (openedBy ws)
     unfolding opened
@@ -77,7 +77,7 @@ module _ (l n : List ℕ) (ws : List (List ℕ)) (u : l ≡ unsaid) (q : Took) (
 
     pub within : Within m
     within =
-        let a : optionsTook settings keyCount unsaid ws ≡ Taken = ap (λ (x : List ℕ). optionsTook settings keyCount x ws) (sym u) ∙ sym (o .told) ∙ t in
+        let a : optionsTook settings keyCount unsaid ws ≡ Taken = sym (o .told) ∙ t in
         (rw (sym values-then) at (held-options 0 settings keyCount ws unsaid (omega arith) a (held-unsaid 0))) .options
 
 -- ---- a line

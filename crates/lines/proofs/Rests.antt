@@ -10,21 +10,21 @@ use Rattle.text.specs.Run.{run, other}
 use Rattle.text.specs.Name.{place}
 use Rattle.text.specs.Split.{words, before, part, WordAt}
 use Rattle.text.proofs.Splits.{no-word, one-word, part-front}
-use Rattle.lines.specs.Key.{bufferKey, settings, keyCount, wordsAt, unsaid}
+use Rattle.lines.specs.Key.{bufferKey, settings, keyCount, unsaid}
 use Rattle.lines.specs.Name.{names, openName, nameCount, ends, textOf}
-use Rattle.lines.specs.Argument.{allRead, form, argumentValues, Arguments}
+use Rattle.lines.specs.Argument.{allRead, form, Arguments}
 use Rattle.lines.specs.Option.{optionsRest, Stopped}
 use Rattle.lines.specs.Call.{argumentsOf}
 use Rattle.lines.specs.Found.{restNamed, restWords, foundIn, firstIn, Stands}
 
 -- ---- among the words after a name
 
-module _ (name : ℕ) (s l : List ℕ) (ws : List (List ℕ)) (u : l ≡ unsaid) where
-  pub at-setting : name ≡ openName → (at : ℕ) → Stopped settings keyCount s l ws at → (at ≤ length s) × (words (drop at s) ≡ restNamed name ws)
+module _ (name : ℕ) (s : List ℕ) (ws : List (List ℕ)) where
+  pub at-setting : name ≡ openName → (at : ℕ) → Stopped settings keyCount s unsaid ws at → (at ≤ length s) × (words (drop at s) ≡ restNamed name ws)
   unfolding restNamed
-  at-setting e at h = (h .within, h .rest ∙ ap (λ (x : List ℕ). optionsRest settings keyCount x ws) u ∙ sym (pick-t _ _ _ (eq-eqb name openName e)))
+  at-setting e at h = (h .within, h .rest ∙ sym (pick-t _ _ _ (eq-eqb name openName e)))
 
-  module _ (f : name ≡ openName → ⊥) (d : List ℕ) (r at : ℕ) (m e : List ℕ) (g : Arguments (form name) s l d ws r at m e) where
+  module _ (f : name ≡ openName → ⊥) (d : List ℕ) (r at : ℕ) (m e : List ℕ) (g : Arguments (form name) s unsaid d ws r at m e) where
     pub at-word : (r ≡ allRead → ⊥) → (at ≤ length s) × (words (drop at s) ≡ restNamed name ws)
     unfolding restNamed
     at-word h =
@@ -34,7 +34,7 @@ module _ (name : ℕ) (s l : List ℕ) (ws : List (List ℕ)) (u : l ≡ unsaid)
         → (z ≤ length s) × (words (drop z s) ≡ restNamed name ws)
     unfolding restNamed
     at-option h to k z o =
-        let v : m ≡ argumentsOf name ws = g .values h ∙ ap (argumentValues wordsAt (form name) ws) u in (
+        let v : m ≡ argumentsOf name ws = g .values h in (
           o .within,
           o .rest
               ∙ ap (λ (x : ℕ). optionsRest bufferKey x m (words (drop at s))) k

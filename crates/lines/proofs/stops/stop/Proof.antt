@@ -20,7 +20,7 @@ options-requires : tie.Need-options-requires
 options-requires c κs = search needs
 
 returns : tie.Need-returns
-returns c = at-setting _ _ _ _ refl (c .before .before .before .before .before .if1 .taken) _ (c .before .before .options .ensures .1)
+returns c = at-setting _ _ _ (c .before .before .before .before .before .if1 .taken) _ (c .before .before .options .ensures .1)
 
 slice-aggregate-arguments : tie.Need-slice-aggregate-arguments
 slice-aggregate-arguments c = search needs
@@ -32,7 +32,7 @@ arguments-requires : tie.Need-arguments-requires
 arguments-requires c κs = search needs
 
 returns-2 : tie.Need-returns-2
-returns-2 c = at-word _ _ _ _ refl (c .before .before .before .before .before .before .if1 .left) _ _ _ _ _ (c .before .before .before .arguments .ensures) (c .if2 .taken)
+returns-2 c = at-word _ _ _ (c .before .before .before .before .before .before .if1 .left) _ _ _ _ _ (c .before .before .before .arguments .ensures) (c .if2 .taken)
 
 mul-options : tie.Need-mul-options
 mul-options c = search needs
@@ -50,7 +50,7 @@ options-requires-2 : tie.Need-options-requires-2
 options-requires-2 c κs = (c .before .before .before .before .before .arguments .ensures .within, omega (arith, getD-under (keyCount + 1) ends (omega arith) tt (c .before .before .before .before .before .before .before .before .before .before .args .name)), search needs, search needs)
 
 returns-3 : tie.Need-returns-3
-returns-3 c = at-option _ _ _ _ refl (c .before .before .before .before .before .before .before .before .before .before .before .if1 .left) _ _ _ _ _ (c .before .before .before .before .before .before .before .before .arguments .ensures) (c .before .before .before .before .before .if2 .left) _ refl _ (c .before .before .options2 .ensures .1)
+returns-3 c = at-option _ _ _ (c .before .before .before .before .before .before .before .before .before .before .before .if1 .left) _ _ _ _ _ (c .before .before .before .before .before .before .before .before .arguments .ensures) (c .before .before .before .before .before .if2 .left) _ refl _ (c .before .before .options2 .ensures .1)
 
 pub stop-spec : {M : Type 1} → statement M
 stop-spec =
