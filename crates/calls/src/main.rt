@@ -1,14 +1,11 @@
 // Reads lists of calls as text (docs/CALLS.md) from standard input, or from the file that its argument names, and writes an answer a
 // line and each session's account.
-mod answer;
 mod arguments;
-mod digest;
-mod error;
-mod input;
-mod output;
+mod desk;
+mod line;
+mod reply;
 mod run;
-mod state;
-mod stretches;
+mod sessions;
 
 use arguments::Arguments;
 use arguments::Flags;

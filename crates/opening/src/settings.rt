@@ -2,6 +2,7 @@
 ghost use mathlib.Core.Path.{_≡_};
 ghost use Rattle.tuning.specs.Centre.{wholeCentre, belowNyquist};
 ghost use Rattle.model.specs.Settings.{settingsAnswer, settingsTold};
+ghost use Rattle.opening.specs.Refusal.{numberOf};
 use double::whole::is_finite;
 use double::whole::is_whole;
 use model::settings::Settings;
@@ -59,4 +60,19 @@ pub fn validate_protocol2(s: Settings) -> SettingsAnswer
         return SettingsAnswer::Port;
     }
     SettingsAnswer::Accepted(khz)
+}
+
+// 01's number of a refusal; 0 where the settings are accepted.
+pub fn refusal(a: SettingsAnswer) -> u64
+    ensures { λ r. ⌜ r ≡ numberOf (settingsAnswer a) ⌝ }
+{
+    match a {
+        SettingsAnswer::Accepted(_) => 0,
+        SettingsAnswer::DdcCount => 1,
+        SettingsAnswer::CenterCount => 2,
+        SettingsAnswer::Rate => 3,
+        SettingsAnswer::Center => 4,
+        SettingsAnswer::CenterTooHigh => 5,
+        SettingsAnswer::Port => 6,
+    }
 }

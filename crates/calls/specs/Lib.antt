@@ -1,2 +1,0 @@
--- The definitions that the contracts of `calls` cite.
-pub mod Input

@@ -1,0 +1,2 @@
+-- The definitions that the contracts of `console` cite.
+pub mod Input
