@@ -25,11 +25,11 @@ use super::name::NAME_COUNT;
 use super::name::begins;
 use super::option::Took;
 use super::option::options;
+use iq::IQ_DATAGRAM_LEN;
+use stream::BITS_PER_SAMPLE;
 use stream::SAMPLES_PER_DATAGRAM;
 use values::datagram::put_iq;
 use values::datagram::put_status;
-use stream::BITS_PER_SAMPLE;
-use iq::IQ_DATAGRAM_LEN;
 use wire::status::STATUS_LEN;
 
 // What an `iq` line's options are where they are left out.
