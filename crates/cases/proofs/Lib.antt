@@ -1,2 +1,1 @@
--- What the proofs of `cases` use.
-pub mod Bits
+-- `cases` needs no laws of its own.

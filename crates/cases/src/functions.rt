@@ -1,14 +1,14 @@
 // Which functions there are: groups, each with functions of one crate, or of a session's small parts. A further group is a
 // file with a table and the code that runs a row of it, and a line in each function here.
-use super::answer::Answer;
-use super::double_cases;
-use super::octet_cases;
-use super::packet_cases;
-use super::part_cases;
-use super::receiving_cases;
-use super::table::Found;
-use super::table::find;
-use super::wire_cases;
+use casebook::answer::Answer;
+use casebook::table::Found;
+use casebook::table::find;
+use part_probes::part_cases;
+use part_probes::receiving_cases;
+use probes::double_cases;
+use probes::octet_cases;
+use probes::packet_cases;
+use probes::wire_cases;
 
 // A function by its row in the table of its group.
 pub(crate) enum Function {

@@ -1,5 +1,5 @@
 // What the program writes.
-use super::answer::Answer;
+use casebook::answer::Answer;
 use libc::STDOUT_FILENO;
 
 fn write(s: &[u8]) {

@@ -1,15 +1,15 @@
 // The cases of the input, and how many of them came as expected.
 ghost use Prim.Native.Nat.{_≤_};
 ghost use lib.ListN.{length};
-use super::answer::Answer;
-use super::answer::ROOM;
-use super::answer::is_as;
-use super::case::Case;
-use super::case::read;
 use super::functions::answer;
 use super::functions::named;
 use super::input::next;
 use super::report;
+use casebook::answer::Answer;
+use casebook::answer::ROOM;
+use casebook::answer::is_as;
+use casebook::case::Case;
+use casebook::case::read;
 use std::num::wrapping_add_u64;
 
 const LINES: u64 = 1_000_000;

@@ -1,0 +1,1 @@
+-- `casebook` needs no laws of its own.

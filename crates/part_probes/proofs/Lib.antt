@@ -1,0 +1,1 @@
+-- `part_probes` needs no laws of its own.

@@ -1,0 +1,1 @@
+-- The functions of `part_probes` are promised safe and ending, and no more.

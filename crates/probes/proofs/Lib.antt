@@ -1,0 +1,2 @@
+-- What the proofs of `cases` use.
+pub mod Bits
