@@ -1,61 +1,57 @@
 // A line that can't be read, or a list: the line's number, what was expected, and what stands there.
-ghost use Prim.Native.Nat.{_≤_};
-ghost use lib.ListN.{length};
 use console::output::ROOM;
-use console::output::named;
 use console::output::named_hex;
 use console::output::number;
 use console::output::put;
+use console::pattern::filled;
+use console::pattern::nth_filled;
 use lines::Expected;
 use lines::LONGEST;
 use lines::first_word;
 use lines::found;
 use lines::key::KEYS;
 use text::Word;
-use text::word_at;
 
-// The k-th of names with blanks between them; empty where there are no more.
-fn nth_word(names: &[u8], k: u8) -> Word
-    ensures { λ r. ⌜ (r .start ≤ r .end) × (r .end ≤ length (now (names .entry))) ⌝ }
-{
-    let mut at = 0;
-    let mut i = 0;
-    while i < k {
-        let word = word_at(names, at);
-        at = word.end;
-        i += 1;
+// What was expected, a line for each, as CALLS.md has it.
+const EXPECTED: [u8; 189] = *b"a call\n\
+    open\n\
+    a setting\n\
+    a value of \n\
+    a reading\n\
+    a number of a datagram\n\
+    an octet\n\
+    an address and a port\n\
+    octets in hexadecimal\n\
+    a number of places\n\
+    the end of the line\n\
+    a shorter line\n\
+    fewer stretches";
+
+// Its line.
+fn place(e: Expected) -> u64 {
+    match e {
+        Expected::Call => 0,
+        Expected::Open => 1,
+        Expected::Setting => 2,
+        Expected::ValueOf(_) => 3,
+        Expected::Reading => 4,
+        Expected::DatagramNumber => 5,
+        Expected::Octet => 6,
+        Expected::Sender => 7,
+        Expected::Octets => 8,
+        Expected::Places => 9,
+        Expected::End => 10,
+        Expected::ShorterLine => 11,
+        Expected::FewerStretches => 12,
     }
-    word_at(names, at)
-}
-
-fn put_nth(out: &mut [u8; ROOM], at: usize, names: &[u8], k: u8) -> usize {
-    let word = nth_word(names, k);
-    let start = word.start;
-    let end = word.end;
-    put(out, at, &names[start..end])
-}
-
-fn value_of(out: &mut [u8; ROOM], at: usize, key: u8) -> usize {
-    let end = put(out, at, b"a value of ");
-    put_nth(out, end, &KEYS, key)
 }
 
 fn what(out: &mut [u8; ROOM], at: usize, e: Expected) -> usize {
-    match e {
-        Expected::Call => put(out, at, b"a call"),
-        Expected::Open => put(out, at, b"open"),
-        Expected::Setting => put(out, at, b"a setting"),
-        Expected::ValueOf(key) => value_of(out, at, key),
-        Expected::Reading => put(out, at, b"a reading"),
-        Expected::DatagramNumber => put(out, at, b"a number of a datagram"),
-        Expected::Octet => put(out, at, b"an octet"),
-        Expected::Sender => put(out, at, b"an address and a port"),
-        Expected::Octets => put(out, at, b"octets in hexadecimal"),
-        Expected::Places => put(out, at, b"a number of places"),
-        Expected::End => put(out, at, b"the end of the line"),
-        Expected::ShorterLine => put(out, at, b"a shorter line"),
-        Expected::FewerStretches => put(out, at, b"fewer stretches"),
+    let end = nth_filled(out, at, &EXPECTED, b'\n', place(e), &[0]);
+    if let Expected::ValueOf(key) = e {
+        return nth_filled(out, end, &KEYS, b' ', key as u64, &[0]);
     }
+    end
 }
 
 // What of a word is shown.
@@ -134,10 +130,7 @@ fn put_word(out: &mut [u8; ROOM], at: usize, line: &[u8], e: Expected) -> usize 
 
 fn put_found(out: &mut [u8; ROOM], at: usize, line: &[u8], e: Expected, stretches: usize) -> usize {
     match e {
-        Expected::ShorterLine => {
-            let end = named(out, at, b"more than ", LONGEST as u64);
-            put(out, end, b" octets")
-        }
+        Expected::ShorterLine => filled(out, at, b"more than # octets", &[LONGEST as u64]),
         Expected::FewerStretches => number(out, at, stretches as u64),
         _ => put_word(out, at, line, e),
     }
@@ -152,16 +145,19 @@ pub fn tell(
     line: &[u8],
     stretches: usize,
 ) -> usize {
-    let one = named(out, at, b"error line ", number);
-    let two = put(out, one, b": expected ");
-    let three = what(out, two, e);
-    let four = put(out, three, b", found ");
-    let five = put_found(out, four, line, e, stretches);
-    put(out, five, b"\n")
+    let one = filled(out, at, b"error line #: expected ", &[number]);
+    let two = what(out, one, e);
+    let three = put(out, two, b", found ");
+    let four = put_found(out, three, line, e, stretches);
+    put(out, four, b"\n")
 }
 
 // The line of this number is not there whole: the list's input failed.
 pub fn unread(out: &mut [u8; ROOM], at: usize, number: u64) -> usize {
-    let end = named(out, at, b"error line ", number);
-    put(out, end, b": the list can't be read on\n")
+    filled(
+        out,
+        at,
+        b"error line #: the list can't be read on\n",
+        &[number],
+    )
 }

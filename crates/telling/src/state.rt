@@ -6,6 +6,7 @@ use console::output::named;
 use console::output::number;
 use console::output::put;
 use console::output::yes;
+use console::pattern::filled;
 use model::receiver::Anchor;
 use model::receiver::Parked;
 use model::receiver::Pending;
@@ -60,9 +61,7 @@ fn moment(out: &mut [u8; ROOM], at: usize, m: Moment) -> usize {
 }
 
 fn three(out: &mut [u8; ROOM], at: usize, a: u64, b: u64, c: u64) -> usize {
-    let one = number(out, at, a);
-    let two = named(out, one, b" ", b);
-    named(out, two, b" ", c)
+    filled(out, at, b"# # #", &[a, b, c])
 }
 
 fn window(out: &mut [u8; ROOM], at: usize, w: Window) -> usize {
@@ -99,8 +98,8 @@ fn tracked(out: &mut [u8; ROOM], at: usize, t: SeqTracker, waiting: usize) -> us
     let next = t.expected;
     let one = put(out, at, b"state expected ");
     let two = expected(out, one, next);
-    let three = named(out, two, b" stale ", wide(t.stale_run));
-    named(out, three, b" waiting ", waiting as u64)
+    let stale = wide(t.stale_run);
+    filled(out, two, b" stale # waiting #", &[stale, waiting as u64])
 }
 
 // The wait anchor.
@@ -111,9 +110,12 @@ fn waited(out: &mut [u8; ROOM], at: usize, r: Reading) -> usize {
 }
 
 fn readings(out: &mut [u8; ROOM], at: usize, valid: u64, accepted: u64, taken: u64) -> usize {
-    let one = named(out, at, b" valid ", valid);
-    let two = named(out, one, b" accepted ", accepted);
-    named(out, two, b" taken ", taken)
+    filled(
+        out,
+        at,
+        b" valid # accepted # taken #",
+        &[valid, accepted, taken],
+    )
 }
 
 fn parked(out: &mut [u8; ROOM], at: usize, p: Parked) -> usize {
@@ -158,16 +160,20 @@ fn stall(out: &mut [u8; ROOM], at: usize, e: StallEpisode) -> usize {
 }
 
 fn counts(out: &mut [u8; ROOM], at: usize, seq: [u32; 4]) -> usize {
-    let one = named(out, at, b" counts ", wide(seq[0]));
-    let two = named(out, one, b" ", wide(seq[1]));
-    let three = named(out, two, b" ", wide(seq[2]));
-    named(out, three, b" ", wide(seq[3]))
+    let general = wide(seq[0]);
+    let rx = wide(seq[1]);
+    let tx = wide(seq[2]);
+    let high = wide(seq[3]);
+    filled(out, at, b" counts # # # #", &[general, rx, tx, high])
 }
 
 fn clocks(out: &mut [u8; ROOM], at: usize, c: Clocks) -> usize {
-    let one = named(out, at, b" clocks ", c.general);
-    let two = named(out, one, b" ", c.rx_tx_specific);
-    named(out, two, b" ", c.high_priority)
+    filled(
+        out,
+        at,
+        b" clocks # # #",
+        &[c.general, c.rx_tx_specific, c.high_priority],
+    )
 }
 
 fn attenuator(out: &mut [u8; ROOM], at: usize, a: Attenuator) -> usize {

@@ -6,8 +6,7 @@ use super::account::TABLE;
 use super::account::keep;
 use super::account::stretch_at;
 use console::output::ROOM;
-use console::output::named;
-use console::output::put;
+use console::pattern::filled;
 use encoding::answer::GAP;
 use health::InputHealthCounters;
 use tally::Stretch;
@@ -15,15 +14,21 @@ use tally::Sums;
 use tally::plus;
 
 fn put_stretch(out: &mut [u8; ROOM], at: usize, k: u64, s: Stretch) -> usize {
-    let one = named(out, at, b"stretch ", k);
-    let two = named(out, one, b" at ", s.at);
-    let three = named(out, two, b" last ", s.last);
-    let four = named(out, three, b" first ", s.first);
-    let five = named(out, four, b" highest ", s.highest);
-    let six = named(out, five, b" samples ", s.samples);
-    let seven = named(out, six, b" missing ", s.missing);
-    let eight = named(out, seven, b" restart ", s.restart);
-    put(out, eight, b"\n")
+    filled(
+        out,
+        at,
+        b"stretch # at # last # first # highest # samples # missing # restart #\n",
+        &[
+            k,
+            s.at,
+            s.last,
+            s.first,
+            s.highest,
+            s.samples,
+            s.missing,
+            s.restart,
+        ],
+    )
 }
 
 fn total(table: &[u64; TABLE], n: usize) -> Sums
@@ -55,21 +60,34 @@ fn put_stretches(out: &mut [u8; ROOM], at: usize, table: &[u64; TABLE], n: usize
 }
 
 fn put_total(out: &mut [u8; ROOM], at: usize, a: Account, t: Sums, waiting: u64) -> usize {
-    let one = named(out, at, b"total stretches ", a.stretches as u64);
-    let two = named(out, one, b" samples ", t.samples);
-    let three = named(out, two, b" missing ", t.missing);
-    let four = named(out, three, b" restart ", t.restart);
-    let five = named(out, four, b" handed ", a.handed);
-    let six = named(out, five, b" waiting ", waiting);
-    put(out, six, b"\n")
+    let stretches = a.stretches as u64;
+    filled(
+        out,
+        at,
+        b"total stretches # samples # missing # restart # handed # waiting #\n",
+        &[
+            stretches,
+            t.samples,
+            t.missing,
+            t.restart,
+            a.handed,
+            waiting,
+        ],
+    )
 }
 
 fn put_counters(out: &mut [u8; ROOM], at: usize, h: InputHealthCounters, loss: u64) -> usize {
-    let one = named(out, at, b"counters dropped ", h.dropped_packets);
-    let two = named(out, one, b" gaps ", h.gaps_detected);
-    let three = named(out, two, b" malformed ", h.malformed_packets);
-    let four = named(out, three, b" loss ", loss);
-    put(out, four, b"\n")
+    filled(
+        out,
+        at,
+        b"counters dropped # gaps # malformed # loss #\n",
+        &[
+            h.dropped_packets,
+            h.gaps_detected,
+            h.malformed_packets,
+            loss,
+        ],
+    )
 }
 
 // The gap that an arrival was told, from the account before it.
@@ -77,12 +95,13 @@ pub fn tell_gap(out: &mut [u8; ROOM], at: usize, a: Account, code: u64, missing:
     if code < GAP {
         return at;
     }
-    let last = a.last;
-    let one = named(out, at, b"gap stretch ", a.stretches as u64);
-    let two = named(out, one, b" after ", last.highest);
-    let three = named(out, two, b" datagrams ", code - GAP);
-    let four = named(out, three, b" samples ", missing);
-    put(out, four, b"\n")
+    let stretches = a.stretches as u64;
+    filled(
+        out,
+        at,
+        b"gap stretch # after # datagrams # samples #\n",
+        &[stretches, a.last.highest, code - GAP, missing],
+    )
 }
 
 // The whole account of a session that ends with so many samples waiting.
