@@ -1,14 +1,14 @@
 // Runs cases of text, a line each, and tells of each whether it came out as expected.
 mod functions;
-mod input;
-mod report;
+mod one;
 mod run;
+mod tally;
 
-// Room for a line: the longest has two packets' octets.
-const LINE: usize = 8192;
+use console::input::ROOM as INPUT;
+use console::output::ROOM;
 
 fn main() {
-    let mut room = [0u8; LINE];
-    let t = run::run(&mut room);
-    report::total(t.cases, t.wrong);
+    let mut room = [0u8; INPUT];
+    let mut out = [0u8; ROOM];
+    run::run(&mut room, &mut out);
 }

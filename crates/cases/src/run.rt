@@ -1,110 +1,86 @@
 // The cases of the input, and how many of them came as expected.
-ghost use Prim.Native.Nat.{_≤_};
-ghost use lib.ListN.{length};
-use super::functions::answer;
-use super::functions::named;
-use super::input::next;
-use super::report;
-use casebook::answer::Answer;
-use casebook::answer::ROOM;
-use casebook::answer::is_as;
-use casebook::case::Case;
-use casebook::case::read;
+ghost use Rattle.console.specs.Input.{Within};
+use super::one::one_line;
+use super::tally::Tally;
+use super::tally::empty;
+use casebook::report::too_long;
+use casebook::report::total;
+use casebook::report::unread;
+use console::input::Input;
+use console::input::ROOM as INPUT;
+use console::input::fill;
+use console::input::is_cut;
+use console::input::next;
+use console::input::nothing;
+use console::output::ROOM;
+use console::output::finish;
+use console::output::flush;
+use libc::STDIN_FILENO;
 use std::num::wrapping_add_u64;
 
-const LINES: u64 = 1_000_000;
-
-// The cases, those not as expected, and the number of the line.
-pub(crate) struct Tally {
-    pub cases: u64,
-    pub wrong: u64,
-    pub line: u64,
-}
-
-impl Tally {
-    fn next_line(mut self) -> Tally {
-        self.line = wrapping_add_u64(self.line, 1);
-        self
-    }
-
-    fn next_case(mut self, fine: bool) -> Tally {
-        self.cases = wrapping_add_u64(self.cases, 1);
-        if !fine {
-            self.wrong = wrapping_add_u64(self.wrong, 1);
-        }
-        self
-    }
-}
-
-// Whether an answer came as expected. came and room are as is_as takes them.
-fn told(a: Answer, came: &[u8], expected: &[u8], room: &mut [u8]) -> bool {
-    let fine = is_as(a, came, expected, room);
-    if fine {
-        report::as_expected();
-    } else {
-        report::other(a, came);
-    }
-    fine
-}
-
-// The octets that a case gives stand at the front of given, and those that are expected go to wanted.
-fn one_case(line: &[u8], c: Case, given: &mut [u8], wanted: &mut [u8]) -> bool
-    requires { ⌜ (c .name .start ≤ c .name .end) × (c .name .end ≤ length (now line)) ⌝ }
-    requires { ⌜ (c .expected .start ≤ c .expected .end) × (c .expected .end ≤ length (now line)) ⌝ }
-    requires { ⌜ c .given .octets ≤ length (now given) ⌝ }
+// A line longer than the room is a case not as expected and the last that is read: what follows of it is no line of its own, and
+// must not pass for a case.
+fn turn(room: &[u8; INPUT], at: Input, t: Tally, out: &mut [u8; ROOM]) -> Tally
+    requires { ⌜ Within at ⌝ }
 {
-    let start = c.name.start;
-    let end = c.name.end;
-    let f = named(&line[start..end], c.given.count, c.given.has_octets);
-    let n = c.given.octets;
-    let numbers = c.given.numbers;
-    let a = answer(f, numbers, &mut given[0..n]);
-    let from = c.expected.start;
-    let to = c.expected.end;
-    told(a, &given[0..n], &line[from..to], wanted)
-}
-
-// A line that is not blank, told as it comes.
-fn one_told(line: &[u8], at: u64) -> bool {
-    let mut given = [0u8; ROOM];
-    let mut wanted = [0u8; ROOM];
-    let c = read(line, &mut given);
-    let start = c.name.start;
-    let end = c.name.end;
-    report::case(at, &line[start..end]);
-    if !c.fine {
-        report::not_understood();
-        return false;
+    if at.too_long {
+        return t.next_case(false, too_long(out, t.out, t.line)).over();
     }
-    one_case(line, c, &mut given, &mut wanted)
+    let all = &room[..];
+    let start = at.start;
+    let end = at.end;
+    one_line(&all[start..end], t, out)
 }
 
-// A comment runs to the line's end.
-fn one_line(line: &[u8], t: Tally) -> Tally {
-    let n = text::find(line, b'#');
-    if text::past(&line[0..n], b' ') == n {
+// Whether there may be a case more.
+fn goes_on(t: Tally, at: Input) -> bool {
+    !t.is_over && !at.failed && t.out <= ROOM
+}
+
+// Nothing is read where the output failed.
+fn read_on(room: &mut [u8; INPUT], at: Input, out: usize) -> Input
+    requires { ⌜ Within at ⌝ }
+    ensures { λ r. ⌜ Within r ⌝ }
+{
+    if out > ROOM {
+        return at;
+    }
+    fill(STDIN_FILENO, room, at)
+}
+
+// An input that failed is told, and counts as a case not as expected: a cut input would pass with the cases that are left.
+fn end(t: Tally, failed: bool, out: &mut [u8; ROOM]) -> Tally {
+    if !failed {
         return t;
     }
-    t.next_case(one_told(&line[0..n], t.line))
+    os::fail(b"standard input");
+    t.next_case(false, unread(out, t.out, wrapping_add_u64(t.line, 1)))
 }
 
-// To the input's end, each line in the room. What is past the most lines counts as a case not as expected: a cut input would
-// pass with the cases that are left.
-pub(crate) fn run(room: &mut [u8]) -> Tally {
-    let mut t = Tally {
-        cases: 0,
-        wrong: 0,
-        line: 0,
-    };
-    let mut left = LINES;
-    while left > 0 {
-        let l = next(room);
-        let end = l.end;
-        t = one_line(&room[0..end], t.next_line());
-        if !l.more {
-            return t;
+fn told(t: Tally, out: &mut [u8; ROOM]) {
+    let end = total(out, t.out, t.cases, t.wrong);
+    finish(out, end);
+}
+
+// To the input's end. A proved loop has to end: it counts its turns down, from a number that no run uses up.
+pub(crate) fn run(room: &mut [u8; INPUT], out: &mut [u8; ROOM]) {
+    let mut t = empty();
+    let mut at = nothing();
+    let mut turns = u64::MAX;
+    while turns > 0 && goes_on(t, at) {
+        turns -= 1;
+        at = next(room, at);
+        if is_cut(at) {
+            t = t.written(flush(out, t.out));
+            at = read_on(room, at, t.out);
+            continue;
         }
-        left -= 1;
+        if at.is_line {
+            t = turn(room, at, t.next_line(), out);
+        } else {
+            t = t.over();
+        }
     }
-    t.next_case(false)
+    let last = end(t, at.failed, out);
+    told(last, out)
 }

@@ -1,46 +1,44 @@
--- `cases::run::run`: at each turn fewer lines are left to be read, and the room keeps its length. Assumes nothing.
-use mathlib.Core.Path.{_≡_}
+-- `cases::run::run` is safe and ends: the measure is the number of turns that are left. Assumes nothing.
+use Rattle.console.specs.Input.{Within}
 use borrow.Author.Needs.{needs}
-use Prim.Native.Nat.{_≤_}
-use lib.ListN.{length}
 use Rattle.cases.proofs.run.run.Statement.{statement}
 use Rattle.cases.proofs.run.run.Tie as tie
 
 abbrev Inv-loop : tie.InvT-loop
-Inv-loop room₀ t₀ left₀ room t left = (left ≤ 1000000) × (length room ≡ length room₀)
+Inv-loop room₀ out₀ t₀ at₀ turns₀ room out t at turns = Within at
 
 abbrev μ-loop : tie.MeasureT-loop
-μ-loop room₀ t₀ left₀ room t left = left
+μ-loop room₀ out₀ t₀ at₀ turns₀ room out t at turns = turns
+
+empty-requires : tie.Need-empty-requires Inv-loop μ-loop
+empty-requires c κs = search needs
+
+nothing-requires : tie.Need-nothing-requires Inv-loop μ-loop
+nothing-requires c κs = search needs
 
 loop-holds : tie.Need-loop-holds Inv-loop μ-loop
 loop-holds c = search needs
 
+goes-on-requires : tie.Need-goes-on-requires Inv-loop μ-loop
+goes-on-requires c κs = search needs
+
+sub-turns : tie.Need-sub-turns Inv-loop μ-loop
+sub-turns c = search needs
+
 next-requires : tie.Need-next-requires Inv-loop μ-loop
 next-requires c κs = search needs
 
-sub-one-line : tie.Need-sub-one-line Inv-loop μ-loop
-sub-one-line c = search needs
+is-cut-requires : tie.Need-is-cut-requires Inv-loop μ-loop
+is-cut-requires c κs = search needs
 
-part-one-line-start : tie.Need-part-one-line-start Inv-loop μ-loop
-part-one-line-start c = search needs
+flush-requires : tie.Need-flush-requires Inv-loop μ-loop
+flush-requires c κs = search needs
 
-part-one-line-end : tie.Need-part-one-line-end Inv-loop μ-loop
-part-one-line-end c = search needs
+written-requires : tie.Need-written-requires Inv-loop μ-loop
+written-requires c κs = search needs
 
-next-line-requires : tie.Need-next-line-requires Inv-loop μ-loop
-next-line-requires c κs = search needs
-
-one-line-requires : tie.Need-one-line-requires Inv-loop μ-loop
-one-line-requires c κs = search needs
-
-same-length : tie.Need-same-length Inv-loop μ-loop
-same-length c = search needs
-
-returns : tie.Need-returns Inv-loop μ-loop
-returns c = search needs
-
-sub-left : tie.Need-sub-left Inv-loop μ-loop
-sub-left c = search needs
+read-on-requires : tie.Need-read-on-requires Inv-loop μ-loop
+read-on-requires c κs = search needs
 
 loop-less : tie.Need-loop-less Inv-loop μ-loop
 loop-less c = search needs
@@ -48,14 +46,35 @@ loop-less c = search needs
 loop-again : tie.Need-loop-again Inv-loop μ-loop
 loop-again c = search needs
 
-next-case-requires : tie.Need-next-case-requires Inv-loop μ-loop
-next-case-requires c κs = search needs
+next-line-requires : tie.Need-next-line-requires Inv-loop μ-loop
+next-line-requires c κs = search needs
 
-same-length-2 : tie.Need-same-length-2 Inv-loop μ-loop
-same-length-2 c = search needs
+turn-requires : tie.Need-turn-requires Inv-loop μ-loop
+turn-requires c κs = search needs
 
-returns-2 : tie.Need-returns-2 Inv-loop μ-loop
-returns-2 c = search needs
+loop-less-2 : tie.Need-loop-less-2 Inv-loop μ-loop
+loop-less-2 c = search needs
+
+loop-again-2 : tie.Need-loop-again-2 Inv-loop μ-loop
+loop-again-2 c = search needs
+
+over-requires : tie.Need-over-requires Inv-loop μ-loop
+over-requires c κs = search needs
+
+loop-less-3 : tie.Need-loop-less-3 Inv-loop μ-loop
+loop-less-3 c = search needs
+
+loop-again-3 : tie.Need-loop-again-3 Inv-loop μ-loop
+loop-again-3 c = search needs
+
+end-requires : tie.Need-end-requires Inv-loop μ-loop
+end-requires c κs = search needs
+
+told-requires : tie.Need-told-requires Inv-loop μ-loop
+told-requires c κs = search needs
+
+returns : tie.Need-returns Inv-loop μ-loop
+returns c = search needs
 
 pub run-spec : {M : Type 1} → statement M
 run-spec =
@@ -63,18 +82,25 @@ run-spec =
     (tie.spec
     Inv-loop
     μ-loop
+    empty-requires
+    nothing-requires
     loop-holds
+    goes-on-requires
+    sub-turns
     next-requires
-    sub-one-line
-    part-one-line-start
-    part-one-line-end
-    next-line-requires
-    one-line-requires
-    same-length
-    returns
-    sub-left
+    is-cut-requires
+    flush-requires
+    written-requires
+    read-on-requires
     loop-less
     loop-again
-    next-case-requires
-    same-length-2
-    returns-2)
+    next-line-requires
+    turn-requires
+    loop-less-2
+    loop-again-2
+    over-requires
+    loop-less-3
+    loop-again-3
+    end-requires
+    told-requires
+    returns)

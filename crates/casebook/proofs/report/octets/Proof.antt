@@ -1,22 +1,15 @@
--- `cases::report::octets` goes through its slice once. Assumes nothing.
-use mathlib.Core.Path.{_≡_}
-use borrow.Author.Needs.{needs}
+-- `casebook::report::octets` is safe and ends. Assumes nothing.
 use Prim.Native.Nat.{_-_, _≤_}
 use lib.ListN.{length}
-use Rattle.cases.proofs.report.octets.Statement.{statement}
-use Rattle.cases.proofs.report.octets.Tie as tie
+use borrow.Author.Needs.{needs}
+use Rattle.casebook.proofs.report.octets.Statement.{statement}
+use Rattle.casebook.proofs.report.octets.Tie as tie
 
 abbrev Inv-loop : tie.InvT-loop
-Inv-loop p i₀ i-end i = (i ≤ length p) × (i-end ≡ length p)
+Inv-loop out₀ at p end₀ i₀ out end i = i ≤ length p
 
 abbrev μ-loop : tie.MeasureT-loop
-μ-loop p i₀ i-end i = length p - i
-
-slice-aggregate-write : tie.Need-slice-aggregate-write Inv-loop μ-loop
-slice-aggregate-write c = search needs
-
-write-requires : tie.Need-write-requires Inv-loop μ-loop
-write-requires c κs = search needs
+μ-loop out₀ at p end₀ i₀ out end i = length p - i
 
 loop-holds : tie.Need-loop-holds Inv-loop μ-loop
 loop-holds c = search needs
@@ -45,8 +38,6 @@ octets-spec =
     (tie.spec
     Inv-loop
     μ-loop
-    slice-aggregate-write
-    write-requires
     loop-holds
     shared-slice-read-octet
     octet-requires
