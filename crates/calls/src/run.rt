@@ -23,6 +23,7 @@ use console::output::finish;
 use std::num::wrapping_add_u64;
 use telling::account::TABLE;
 use telling::error;
+use stream::F32_PER_DATAGRAM;
 
 // Whether the list goes on.
 fn goes_on(d: Desk, at: Input) -> bool {
@@ -65,7 +66,7 @@ fn run_lines(
     name: &[u8],
     flags: Flags,
     text: &mut [u8; INPUT],
-    samples: &mut [f32; 476],
+    samples: &mut [f32; F32_PER_DATAGRAM],
     call: &mut [u64; 8],
     octets: &mut [u8; 2048],
     numbers: &mut [u32; 8193],
@@ -103,7 +104,7 @@ fn run_lines(
 // Runs the list that is read from fd, whose name is told where it can't be read. The status of the program.
 pub(crate) fn run(fd: i32, name: &[u8], flags: Flags) -> u8 {
     let mut text = [0u8; INPUT];
-    let mut samples = [0.0f32; 476];
+    let mut samples = [0.0f32; F32_PER_DATAGRAM];
     let mut call = [0u64; 8];
     let mut octets = [0u8; 2048];
     let mut numbers = [0u32; 8193];

@@ -20,6 +20,7 @@ use session::readers::waiting_samples;
 use telling::account::TABLE;
 use telling::state;
 use telling::stretches;
+use stream::F32_PER_DATAGRAM;
 
 // By the settings of this line, whose first word is `open`.
 fn of_line(line: &[u8]) -> Session {
@@ -47,7 +48,7 @@ pub(crate) fn unused() -> Session {
 // After a call.
 pub(crate) fn called(
     s: Session,
-    samples: &mut [f32; 476],
+    samples: &mut [f32; F32_PER_DATAGRAM],
     call: &[u64; 8],
     octets: &[u8; 2048],
     numbers: &[u32; 8193],

@@ -1,4 +1,3 @@
 -- The definitions that the contracts of `encoding` cite, and those of the crates above it.
 pub mod Words
-pub mod Code
 pub mod Lists

@@ -1,5 +1,5 @@
 -- A call as eight numbers, and what it takes from the front of each lent buffer. Definitions only.
-use Prim.Native.Nat.{ℕ, _+_, _≤_}
+use Prim.Native.Nat.{ℕ, _+_, _≤_, _^_}
 use mathlib.Core.Path.{_≡_}
 use mathlib.Core.Bool.{Bool, _&&_, _||_}
 use mathlib.Core.List.{List}
@@ -27,9 +27,13 @@ wordsAt calls at =
       places = getD calls (at + 7) 0;
     }
 
--- a kind up to 7, an address up to 2^32, and a port
+-- in place of an IPv4 address: the sender has an IPv6 one
+abbrev pub ipv6 : ℕ
+ipv6 = 2 ^ 32
+
+-- a kind up to 7, an address or `ipv6`, and a port
 abbrev pub isCall : Words → Bool
-isCall w = leb (w .kind) 7 && (leb (w .address) 4294967296 && leb (w .port) 65535)
+isCall w = leb (w .kind) 7 && (leb (w .address) ipv6 && leb (w .port) 65535)
 
 -- ---- what a call takes from the front of each lent buffer
 
@@ -81,7 +85,7 @@ pub record Adds (taken need room r : Amounts) : Type 0 where
 -- ---- the call
 
 abbrev pub senderOf : ℕ → ℕ → Sender
-senderOf address port = pick (eqb address 4294967296) V6 (V4 address port)
+senderOf address port = pick (eqb address ipv6) V6 (V4 address port)
 
 -- of its numbers and the parts of the lent buffers that are its own
 unfoldable pub callOf : Words → List ℕ → List ℕ → List ℕ → List Float → Call

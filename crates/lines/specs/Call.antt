@@ -1,5 +1,5 @@
 -- A line: what it is, and what its call gives. Definitions only.
-use Prim.Native.Nat.{ℕ, _+_, _/_, _%_, _≤_, _<_}
+use Prim.Native.Nat.{ℕ, _+_, _/_, _%_, _≤_, _<_, _^_}
 use mathlib.Core.Path.{_≡_}
 use mathlib.Core.List.{List, [], _∷_}
 use lib.Dec.{ltb, leb, eqb}
@@ -129,7 +129,7 @@ octetsOf name l d =
 -- what the octets of a datagram are made from fits their fields
 abbrev pub Small : ℕ → List ℕ → Type 0
 Small name l =
-    (name ≡ iqName → getD l thirdWord 0 < 4294967296)
+    (name ≡ iqName → getD l thirdWord 0 < 2 ^ 32)
     × (name ≡ statusName → getD l thirdWord 0 < 256)
     × (orElse l bitsKey 24 < 65536)
     × (orElse l samplesKey perDatagram < 65536)
@@ -137,7 +137,7 @@ Small name l =
 -- what a caller can go by: the kind, the address, the port, and lengths within the lent buffers
 pub record Fit (c : List ℕ) : Type 0 where
   pub kind : getD c 0 0 ≤ 7
-  pub address : getD c 3 0 ≤ 4294967296
+  pub address : getD c 3 0 ≤ 2 ^ 32
   pub port : getD c 4 0 < 65536
   pub octets : getD c 5 0 ≤ mostOctets
   pub waiting : getD c 6 0 ≤ mostNumbers

@@ -126,7 +126,10 @@ fn word_of(name: usize, j: usize) -> u8
 
 fn argument_as(t: u8, w: &[u8], room: &mut [u8]) -> Spelt
     requires { ⌜ mostOctets ≤ length (now room) ⌝ }
-    ensures { λ r. ⌜ (r ≡ Argument.argumentAs t (now (w .entry))) × ((n : ℕ) → r ≡ Number n → now (room .exit) ≡ Argument.octetsAs t (now (w .entry)) (now (room .entry))) ⌝ }
+    ensures { λ r. ⌜
+        (r ≡ Argument.argumentAs t (now (w .entry))) ×
+        ((n : ℕ) → r ≡ Number n → now (room .exit) ≡ Argument.octetsAs t (now (w .entry)) (now (room .entry)))
+        ⌝ }
 {
     if t == READING {
         return reading(w);
@@ -142,7 +145,10 @@ fn argument_as(t: u8, w: &[u8], room: &mut [u8]) -> Spelt
 
 fn argument(t: u8, w: &[u8], room: &mut [u8]) -> Spelt
     requires { ⌜ (t < Argument.allRead) × (mostOctets ≤ length (now room)) ⌝ }
-    ensures { λ r. ⌜ (r ≡ Argument.argument t (now (w .entry))) × ((n : ℕ) → r ≡ Number n → now (room .exit) ≡ Argument.octetsAs t (now (w .entry)) (now (room .entry))) ⌝ }
+    ensures { λ r. ⌜
+        (r ≡ Argument.argument t (now (w .entry))) ×
+        ((n : ℕ) → r ≡ Number n → now (room .exit) ≡ Argument.octetsAs t (now (w .entry)) (now (room .entry)))
+        ⌝ }
 {
     let most = MOST[t as usize];
     up_to(argument_as(t, w, room), most)
@@ -161,8 +167,13 @@ pub(crate) fn arguments(
     values: &mut [u64],
     room: &mut [u8],
 ) -> Words
-    requires { ⌜ (start ≤ length (now s)) × (name < nameCount) × (valueCount ≤ length (now values)) × (mostOctets ≤ length (now room)) ⌝ }
-    ensures { λ r. ⌜ Argument.Arguments (Argument.form name) (now (s .entry)) (now (values .entry)) (now (room .entry)) (words (drop start (now (s .entry)))) (r .unread) (r .at) (now (values .exit)) (now (room .exit)) ⌝ }
+    requires { ⌜
+        (start ≤ length (now s)) × (name < nameCount) × (valueCount ≤ length (now values)) × (mostOctets ≤ length (now room))
+        ⌝ }
+    ensures { λ r. ⌜
+        Argument.Arguments (Argument.form name) (now (s .entry)) (now (values .entry)) (now (room .entry))
+        (words (drop start (now (s .entry)))) (r .unread) (r .at) (now (values .exit)) (now (room .exit))
+        ⌝ }
 {
     let count = COUNTS[name];
     let mut at = start;

@@ -179,8 +179,13 @@ fn read_named(
     octets: &mut [u8],
     numbers: &mut [u32],
 ) -> Read
-    requires { ⌜ (at ≤ length (now s)) × (name < nameCount) × (mostOctets ≤ length (now octets)) × (mostNumbers ≤ length (now numbers)) ⌝ }
-    ensures { λ r. ⌜ Call.Named name ip port (now (octets .entry)) (now (numbers .entry)) (words (drop at (now (s .entry)))) r (now (call .exit)) (now (octets .exit)) (now (numbers .exit)) ⌝ }
+    requires { ⌜
+        (at ≤ length (now s)) × (name < nameCount) × (mostOctets ≤ length (now octets)) × (mostNumbers ≤ length (now numbers))
+        ⌝ }
+    ensures { λ r. ⌜
+        Call.Named name ip port (now (octets .entry)) (now (numbers .entry)) (words (drop at (now (s .entry)))) r
+        (now (call .exit)) (now (octets .exit)) (now (numbers .exit))
+        ⌝ }
 {
     let mut values = [0u64; VALUES];
     let given = arguments(s, at, name, &mut values, &mut *octets);
@@ -213,7 +218,10 @@ pub(crate) fn read_line(
     numbers: &mut [u32],
 ) -> Read
     requires { ⌜ (mostOctets ≤ length (now octets)) × (mostNumbers ≤ length (now numbers)) ⌝ }
-    ensures { λ r. ⌜ Call.Line (now (line .entry)) ip port (now (octets .entry)) (now (numbers .entry)) r (now (call .exit)) (now (octets .exit)) (now (numbers .exit)) ⌝ }
+    ensures { λ r. ⌜
+        Call.Line (now (line .entry)) ip port (now (octets .entry)) (now (numbers .entry)) r (now (call .exit))
+        (now (octets .exit)) (now (numbers .exit))
+        ⌝ }
 {
     if line.len() > LONGEST {
         return Read::Unread(Expected::ShorterLine);

@@ -59,7 +59,10 @@ pub fn read_call(
     octets: &mut [u8; MOST_OCTETS],
     numbers: &mut [u32; MOST_NUMBERS],
 ) -> Read
-    ensures { λ r. ⌜ Line (now (line .entry)) «radio_ip» port (now (octets .entry)) (now (numbers .entry)) r (now (call .exit)) (now (octets .exit)) (now (numbers .exit)) ⌝ }
+    ensures { λ r. ⌜
+        Line (now (line .entry)) «radio_ip» port (now (octets .entry)) (now (numbers .entry)) r (now (call .exit))
+        (now (octets .exit)) (now (numbers .exit))
+        ⌝ }
 {
     call::read_line(line, radio_ip, port, call, octets, numbers)
 }

@@ -117,7 +117,10 @@ fn attenuation(w: &[u8]) -> Spelt
 
 fn spelt_as(how: u8, w: &[u8], numbers: &mut [u32]) -> Spelt
     requires { ⌜ mostNumbers ≤ length (now numbers) ⌝ }
-    ensures { λ r. ⌜ (r ≡ Option.speltAs how (now (w .entry))) × ((n : ℕ) → r ≡ Number n → now (numbers .exit) ≡ Option.numbersAs how (now (w .entry)) (now (numbers .entry))) ⌝ }
+    ensures { λ r. ⌜
+        (r ≡ Option.speltAs how (now (w .entry))) ×
+        ((n : ℕ) → r ≡ Number n → now (numbers .exit) ≡ Option.numbersAs how (now (w .entry)) (now (numbers .entry)))
+        ⌝ }
 {
     if how == READING {
         return reading(w);
@@ -142,7 +145,10 @@ fn spelt_as(how: u8, w: &[u8], numbers: &mut [u32]) -> Spelt
 
 fn value(key: usize, w: &[u8], numbers: &mut [u32]) -> Spelt
     requires { ⌜ (key < keyCount) × (mostNumbers ≤ length (now numbers)) ⌝ }
-    ensures { λ r. ⌜ (r ≡ Option.valueOf key (now (w .entry))) × ((n : ℕ) → r ≡ Number n → now (numbers .exit) ≡ Option.numbersFor key (now (w .entry)) (now (numbers .entry))) ⌝ }
+    ensures { λ r. ⌜
+        (r ≡ Option.valueOf key (now (w .entry))) ×
+        ((n : ℕ) → r ≡ Number n → now (numbers .exit) ≡ Option.numbersFor key (now (w .entry)) (now (numbers .entry)))
+        ⌝ }
 {
     let how = SPELLINGS[key];
     let most = LIMITS[key];
@@ -151,7 +157,10 @@ fn value(key: usize, w: &[u8], numbers: &mut [u32]) -> Spelt
 
 fn take_option(w: &[u8], from: usize, to: usize, values: &mut [u64], numbers: &mut [u32]) -> Took
     requires { ⌜ (to ≤ keyCount) × (valueCount ≤ length (now values)) × (mostNumbers ≤ length (now numbers)) ⌝ }
-    ensures { λ r. ⌜ Option.Stepped from to (now (values .entry)) (now (numbers .entry)) (now (w .entry)) r (now (values .exit)) (now (numbers .exit)) ⌝ }
+    ensures { λ r. ⌜
+        Option.Stepped from to (now (values .entry)) (now (numbers .entry)) (now (w .entry)) r (now (values .exit))
+        (now (numbers .exit))
+        ⌝ }
 {
     let equals = text::find(w, b'=');
     if w.len() <= equals {
@@ -192,8 +201,14 @@ pub(crate) fn options(
     values: &mut [u64],
     numbers: &mut [u32],
 ) -> Run
-    requires { ⌜ (start ≤ length (now s)) × (to ≤ keyCount) × (valueCount ≤ length (now values)) × (mostNumbers ≤ length (now numbers)) ⌝ }
-    ensures { λ r. ⌜ Option.Ran from to (now (values .entry)) (now (numbers .entry)) (words (drop start (now (s .entry)))) (r .took) (now (values .exit)) (now (numbers .exit)) × Option.Stopped from to (now (s .entry)) (now (values .entry)) (words (drop start (now (s .entry)))) (r .at) ⌝ }
+    requires { ⌜
+        (start ≤ length (now s)) × (to ≤ keyCount) × (valueCount ≤ length (now values)) × (mostNumbers ≤ length (now numbers))
+        ⌝ }
+    ensures { λ r. ⌜
+        Option.Ran from to (now (values .entry)) (now (numbers .entry)) (words (drop start (now (s .entry)))) (r .took)
+        (now (values .exit)) (now (numbers .exit)) × Option.Stopped from to (now (s .entry)) (now (values .entry))
+        (words (drop start (now (s .entry)))) (r .at)
+        ⌝ }
 {
     let mut at = start;
     loop {

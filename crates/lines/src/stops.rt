@@ -23,7 +23,10 @@ use text::Word;
 // Behind the words of a name that can be read.
 fn stop(s: &[u8], at: usize, name: usize) -> usize
     requires { ⌜ (at ≤ length (now s)) × (name < nameCount) ⌝ }
-    ensures { λ r. ⌜ (r ≤ length (now (s .entry))) × (words (drop r (now (s .entry))) ≡ Found.restNamed name (words (drop at (now (s .entry))))) ⌝ }
+    ensures { λ r. ⌜
+        (r ≤ length (now (s .entry))) ×
+        (words (drop r (now (s .entry))) ≡ Found.restNamed name (words (drop at (now (s .entry)))))
+        ⌝ }
 {
     let mut values = [0u64; VALUES];
     let mut numbers = [0u32; MOST_NUMBERS];

@@ -16,14 +16,14 @@ use Rattle.model.specs.Session.{step}
 use Rattle.model.proofs.Room.{room-suffices}
 use Rattle.encoding.specs.Words.{wordsAt, lendsPackets, takenBy, nothing, Within}
 use Rattle.encoding.specs.Lists.{Lent, room, part, callAt, takenWith, callsFrom, decoded, checkFrom}
-use Rattle.encoding.specs.Code.{numbersIn, answerIn, streamsIn}
+use Rattle.answers.specs.Code.{numbersIn, answerIn, streamsIn}
 use Rattle.replay.specs.Runs.{host, all, packetsIn, bufferIn}
 use Rattle.replay.specs.Replay.{replyAt, repliesFrom, repliesIn}
 use Rattle.encoding.specs.declared.words.Amounts.{Amounts}
 use Rattle.encoding.specs.declared.check.Outcome.the-variants.{Ran}
 use Rattle.encoding.proofs.Fitting.{within-says}
 use Rattle.encoding.proofs.Checks.{fine-next}
-use Rattle.encoding.proofs.Decodes.{numbers-size, answer-is, streams-are}
+use Rattle.answers.proofs.Decodes.{numbers-size, answer-is, streams-are}
 use Rattle.replay.proofs.Lendings.{lends, part-size}
 
 module _ {A : Type 0} where

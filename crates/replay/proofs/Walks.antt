@@ -13,7 +13,7 @@ use Rattle.model.specs.State.{State}
 use Rattle.model.specs.Session.{step}
 use Rattle.encoding.specs.Words.{wordsAt, isCall, lendsPackets, takenBy, nothing, Within, callOf}
 use Rattle.encoding.specs.Lists.{Lent, room, callAt, takenWith, callsFrom, checkFrom}
-use Rattle.encoding.specs.Code.{numbersIn}
+use Rattle.answers.specs.Code.{numbersIn}
 use Rattle.turns.specs.Turns.{Turns, TurnsAt}
 use Rattle.replay.specs.Runs.{host, Left, all, packetsIn, bufferIn, RunsAll}
 use Rattle.encoding.specs.declared.words.Words.{Words}

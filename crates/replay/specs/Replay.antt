@@ -16,7 +16,7 @@ use Rattle.model.specs.declared.settings.Settings.{Settings}
 use Rattle.model.specs.declared.settings.SettingsAnswer.{SettingsAnswer}
 use Rattle.model.specs.Gives.{joined}
 use Rattle.encoding.specs.Words.{wordsAt, takenBy, nothing}
-use Rattle.encoding.specs.Code.{answerIn, streamsIn}
+use Rattle.answers.specs.Code.{answerIn, streamsIn}
 use Rattle.encoding.specs.Lists.{Lent, part, takenWith, decoded}
 use Rattle.replay.specs.Runs.{Left, untouched, carried}
 use Rattle.encoding.specs.declared.words.Amounts.{Amounts}

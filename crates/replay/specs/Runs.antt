@@ -9,7 +9,7 @@ use Rattle.octets.specs.Written.{written}
 use Rattle.model.specs.Host.{Reply, Host, trace, final}
 use Rattle.model.specs.State.{State}
 use Rattle.model.specs.Session.{session}
-use Rattle.encoding.specs.Code.{numbersIn}
+use Rattle.answers.specs.Code.{numbersIn}
 use Rattle.encoding.specs.Lists.{Lent, decoded, outcomeOf, isRan}
 use Rattle.encoding.specs.declared.check.Outcome.{Outcome}
 use Rattle.encoding.specs.declared.check.Outcome.the-variants.{Ran}

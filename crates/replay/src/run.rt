@@ -20,6 +20,7 @@ use model::session::Session;
 use model::settings::Settings;
 use model::settings::SettingsAnswer;
 use opening::open::open;
+use opening::settings::refusal;
 use stream::F32_PER_DATAGRAM;
 use turns::turn::turn_at;
 
@@ -86,20 +87,12 @@ fn run(
 fn is_accepted(answer: SettingsAnswer) -> bool
     ensures { λ r. ⌜ r ≡ isGiven (settingsAnswer answer) ⌝ }
 {
-    match answer {
-        SettingsAnswer::Accepted(_) => true,
-        SettingsAnswer::DdcCount => false,
-        SettingsAnswer::CenterCount => false,
-        SettingsAnswer::Rate => false,
-        SettingsAnswer::Center => false,
-        SettingsAnswer::CenterTooHigh => false,
-        SettingsAnswer::Port => false,
-    }
+    refusal(answer) == 0
 }
 
 // Runs a list of calls from any session. `calls` has eight numbers a call (`encoding::words`), `answers` as many places; `octets`,
 // `numbers`, `packets` and `places` hold what the calls lend, one behind the other. Ran: each answer stands in its eight places
-// (`encoding::answer`), each packet and sample in its call's own part. Any other outcome names what is wrong with the list: the
+// (`answers`), each packet and sample in its call's own part. Any other outcome names what is wrong with the list: the
 // session and every lent buffer are then as they were.
 pub fn carry_on(
     s: Session,

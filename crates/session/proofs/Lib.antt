@@ -1,3 +1,3 @@
 -- The laws behind the calls.
-pub mod Passes
+pub mod Closes
 pub mod Takes

@@ -1,9 +1,9 @@
 // The account of a session, from its calls and their answers as numbers (encoding).
 ghost use Prim.Native.Nat.{_≤_, _<_};
-use encoding::answer::GAP;
-use encoding::answer::IN_ORDER;
-use encoding::answer::RESTART;
-use encoding::answer::TOOK;
+use answers::GAP;
+use answers::IN_ORDER;
+use answers::RESTART;
+use answers::TOOK;
 use std::num::wrapping_add_u64;
 use tally::Stretch;
 use tally::first;
@@ -122,7 +122,7 @@ fn handed(a: Account, pairs: u64) -> Account {
     next
 }
 
-// What a call at this reading answered (encoding::answer); the number is that of its datagram.
+// What a call at this reading answered (crate answers); the number is that of its datagram.
 pub fn note(
     table: &mut [u64; TABLE],
     a: Account,

@@ -1,4 +1,4 @@
-// A call's answer as a line of text, from its numbers (encoding::answer) and the buffers that it was lent.
+// A call's answer as a line of text, from its numbers (crate answers) and the buffers that it was lent.
 ghost use Prim.Native.Nat.{_≤_, _<_};
 use super::digest;
 use console::output::ROOM;
@@ -6,22 +6,22 @@ use console::output::named;
 use console::output::put;
 use console::pattern::filled;
 use console::pattern::nth_filled;
-use encoding::answer::CLOSED;
-use encoding::answer::CODE;
-use encoding::answer::EMPTY;
-use encoding::answer::GAP;
-use encoding::answer::HOLDS;
-use encoding::answer::SENT;
-use encoding::answer::STATUS;
-use encoding::answer::STREAMS;
-use encoding::answer::TOOK;
-use encoding::answer::VALUE;
+use answers::CLOSED;
+use answers::CODE;
+use answers::EMPTY;
+use answers::GAP;
+use answers::HOLDS;
+use answers::SENT;
+use answers::STATUS;
+use answers::STREAMS;
+use answers::TOOK;
+use answers::VALUE;
 use encoding::words::TAKE_MISSING;
 
 // The offsets of the streams written stand behind their number.
 const OFFSETS: usize = STREAMS + 1;
 
-// The text of each code of encoding::answer, in their order from REFUSED to GAP; # is the value.
+// The text of each code of answers, in their order from REFUSED to GAP; # is the value.
 const ANSWERS: [u8; 166] = *b"refused #\n\
     begun\n\
     ready\n\

@@ -7,7 +7,7 @@ use super::account::keep;
 use super::account::stretch_at;
 use console::output::ROOM;
 use console::pattern::filled;
-use encoding::answer::GAP;
+use answers::GAP;
 use health::InputHealthCounters;
 use tally::Stretch;
 use tally::Sums;

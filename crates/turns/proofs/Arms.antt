@@ -22,9 +22,9 @@ use Rattle.model.specs.declared.sender.Sender.{Sender}
 use Rattle.model.specs.declared.session.Session.{Session}
 use Rattle.model.specs.declared.command.Streams.{Streams}
 use Rattle.model.specs.Gives.{Gives, joined, incoming}
-use Rattle.encoding.specs.Code.{coded}
+use Rattle.answers.specs.Code.{coded}
 use Rattle.turns.specs.Reply.{Replies, Keeps}
-use Rattle.encoding.specs.declared.answer.Code.{Code}
+use Rattle.answers.specs.declared.Code.{Code}
 
 pub none-of : {A : Type 0} (l : List A) → length l ≡ 0 → l ≡ []
 none-of [] h = refl

@@ -13,7 +13,7 @@ use Rattle.model.specs.State.{State}
 use Rattle.model.specs.Session.{step}
 use Rattle.model.specs.Gives.{joined, incoming}
 use Rattle.encoding.specs.Words.{isCall, lendsPackets, senderOf, callOf}
-use Rattle.encoding.specs.Code.{numbersOf}
+use Rattle.answers.specs.Code.{numbersOf}
 use Rattle.turns.specs.Reply.{Replies}
 use Rattle.turns.specs.Turns.{Turns}
 use Rattle.encoding.specs.declared.words.Words.{Words}

@@ -9,7 +9,7 @@ use Rattle.model.specs.Session.{step}
 use Rattle.model.specs.Command.{streamsAs}
 use Rattle.model.specs.Gives.{joined}
 use Rattle.model.specs.declared.session.Session.{Session}
-use Rattle.encoding.specs.Code.{coded}
+use Rattle.answers.specs.Code.{coded}
 use Rattle.turns.specs.declared.call.Replied.{Replied}
 
 -- the answer, the streams, the lent buffers on return, and the state after it

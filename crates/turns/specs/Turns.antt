@@ -9,7 +9,7 @@ use Rattle.base.specs.Pick.{pick}
 use Rattle.model.specs.State.{State}
 use Rattle.model.specs.Session.{step}
 use Rattle.encoding.specs.Words.{lendsPackets, callOf}
-use Rattle.encoding.specs.Code.{numbersIn}
+use Rattle.answers.specs.Code.{numbersIn}
 use Rattle.encoding.specs.Lists.{between}
 use Rattle.encoding.specs.declared.words.Words.{Words}
 use Rattle.encoding.specs.declared.words.Amounts.{Amounts}

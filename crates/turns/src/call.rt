@@ -10,14 +10,14 @@ ghost use Rattle.model.specs.Session.{step};
 ghost use Rattle.model.specs.Gives.{joined, incoming};
 ghost use Rattle.encoding.specs.Words.{senderOf, isCall, lendsPackets, callOf};
 ghost use Rattle.turns.specs.Reply.{Replies, Keeps};
-use encoding::answer::Code;
-use encoding::answer::of_arrival;
-use encoding::answer::of_begin;
-use encoding::answer::of_close;
-use encoding::answer::of_flag;
-use encoding::answer::of_pass;
-use encoding::answer::of_slot;
-use encoding::answer::of_take;
+use answers::Code;
+use answers::of_arrival;
+use answers::of_begin;
+use answers::of_close;
+use answers::of_flag;
+use answers::of_pass;
+use answers::of_slot;
+use answers::of_take;
 use encoding::words::ARRIVAL;
 use encoding::words::BEGIN;
 use encoding::words::CLOSE;
@@ -57,7 +57,7 @@ fn begin(s: Session, now: u64) -> Replied
 fn pass(s: Session, reading: u64, packets: &mut [u8]) -> Replied
     ensures { λ r. ⌜ Keeps r s (now (packets .exit)) (Pass reading (now (packets .entry))) ⌝ }
 {
-    let r = session::pass::pass(s, reading, packets);
+    let r = passing::pass::pass(s, reading, packets);
     let a = r.answer;
     let answer = of_pass(a);
     let streams = r.streams;

@@ -8,7 +8,7 @@ ghost use Rattle.encoding.specs.Words.{isCall, Within};
 ghost use Rattle.encoding.specs.Lists.{between};
 ghost use Rattle.turns.specs.Turns.{Turns, TurnsAt};
 use super::call::call;
-use encoding::answer::put;
+use answers::put;
 use encoding::words::Amounts;
 use encoding::words::Words;
 use model::session::Session;

@@ -1,5 +1,5 @@
 -- A number, a reading, a double and an IPv4 address, as a word spells each. Definitions only.
-use Prim.Native.Nat.{ℕ, zero, suc, _+_, _-_, _*_}
+use Prim.Native.Nat.{ℕ, zero, suc, _+_, _-_, _*_, _^_}
 use mathlib.Core.Bool.{Bool}
 use mathlib.Core.List.{List, [], _∷_}
 use lib.Dec.{ltb, leb, eqb}
@@ -67,7 +67,7 @@ ipv4 w = octetsAfter 4 0 (parts (is 46) w)
 
 -- an IPv6 address is 2^32
 unfoldable pub host : List ℕ → Spelt
-host w = pick (same w (ascii "v6")) (Number 4294967296) (ipv4 w)
+host w = pick (same w (ascii "v6")) (Number (2 ^ 32)) (ipv4 w)
 
 -- an address and a port with a colon between them at a place, as address × 2^16 + port
 unfoldable pub senderAt : ℕ → List ℕ → Spelt

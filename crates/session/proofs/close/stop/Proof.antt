@@ -3,7 +3,7 @@ use native.Mathlib.Omega.{arith}
 use Rattle.model.specs.Sending as Sending
 use Rattle.model.proofs.Room.{stop-within}
 use Rattle.sending.proofs.Givings.{start-room, from-start}
-use Rattle.session.proofs.Passes.{stopped}
+use Rattle.session.proofs.Closes.{stopped}
 use borrow.Author.Needs.{needs}
 use Rattle.session.proofs.close.stop.Statement.{statement}
 use Rattle.session.proofs.close.stop.Tie as tie

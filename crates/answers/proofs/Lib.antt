@@ -1,0 +1,3 @@
+-- The laws of answers as numbers.
+pub mod Eight
+pub mod Decodes

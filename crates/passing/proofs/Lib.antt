@@ -1,0 +1,2 @@
+-- The laws behind Pass.
+pub mod Passes

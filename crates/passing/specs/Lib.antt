@@ -1,0 +1,1 @@
+-- `passing` cites model's definitions alone.
