@@ -2,11 +2,10 @@
 use super::arguments::Flags;
 use console::output::ROOM;
 use console::output::flush;
-use console::output::number;
-use console::output::put;
+use console::pattern::filled;
 use lines::Expected;
-use telling::account::Account;
-use telling::account::none;
+use marking::account::Account;
+use marking::account::none;
 use telling::error;
 
 // What a line asks for.
@@ -95,6 +94,5 @@ pub(crate) fn numbered(out: &mut [u8; ROOM], d: Desk) -> usize {
     if !d.flags.numbered {
         return d.out;
     }
-    let end = number(out, d.out, d.line);
-    put(out, end, b": ")
+    filled(out, d.out, b"#: ", &[d.line])
 }

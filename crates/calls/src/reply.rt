@@ -5,27 +5,26 @@ use super::desk::END;
 use super::desk::OPEN;
 use super::desk::numbered;
 use super::desk::stopped;
-use console::output::ROOM;
-use console::output::named;
-use console::output::put;
 use answers::CODE;
 use answers::VALUE;
+use console::output::ROOM;
+use console::output::put;
+use console::pattern::filled;
 use encoding::words::KIND;
 use encoding::words::READING;
 use lines::Expected;
-use telling::account::STRETCHES;
-use telling::account::TABLE;
-use telling::account::none;
-use telling::account::note;
+use marking::account::STRETCHES;
+use marking::account::TABLE;
+use marking::account::none;
+use marking::account::note;
+use marking::stretches;
 use telling::answer;
-use telling::stretches;
 
 fn put_opened(out: &mut [u8; ROOM], at: usize, refused: u64) -> usize {
     if refused == 0 {
         return put(out, at, b"opened\n");
     }
-    let end = named(out, at, b"refused ", refused);
-    put(out, end, b"\n")
+    filled(out, at, b"refused #\n", &[refused])
 }
 
 // The desk of a session just opened, or of none.

@@ -20,10 +20,10 @@ use console::input::next;
 use console::input::nothing;
 use console::output::ROOM;
 use console::output::finish;
+use marking::account::TABLE;
 use std::num::wrapping_add_u64;
-use telling::account::TABLE;
-use telling::error;
 use stream::F32_PER_DATAGRAM;
+use telling::error;
 
 // Whether the list goes on.
 fn goes_on(d: Desk, at: Input) -> bool {

@@ -11,16 +11,16 @@ use console::input::Input;
 use console::input::ROOM as INPUT;
 use console::output::ROOM;
 use lines::read_open;
+use marking::account::TABLE;
+use marking::stretches;
 use model::session::Session;
 use opening::open::open;
 use replay::run::carry_on;
 use session::readers::gap_stats;
 use session::readers::loss_total;
 use session::readers::waiting_samples;
-use telling::account::TABLE;
-use telling::state;
-use telling::stretches;
 use stream::F32_PER_DATAGRAM;
+use telling::state;
 
 // By the settings of this line, whose first word is `open`.
 fn of_line(line: &[u8]) -> Session {

@@ -1,11 +1,6 @@
 // A call's answer as a line of text, from its numbers (crate answers) and the buffers that it was lent.
 ghost use Prim.Native.Nat.{_≤_, _<_};
 use super::digest;
-use console::output::ROOM;
-use console::output::named;
-use console::output::put;
-use console::pattern::filled;
-use console::pattern::nth_filled;
 use answers::CLOSED;
 use answers::CODE;
 use answers::EMPTY;
@@ -16,6 +11,11 @@ use answers::STATUS;
 use answers::STREAMS;
 use answers::TOOK;
 use answers::VALUE;
+use console::output::ROOM;
+use console::output::named;
+use console::output::put;
+use console::pattern::filled;
+use console::pattern::nth_filled;
 use encoding::words::TAKE_MISSING;
 
 // The offsets of the streams written stand behind their number.

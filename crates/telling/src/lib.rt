@@ -1,7 +1,5 @@
 // What a program tells of a list of calls, as lines of text in a gathered output (docs/CALLS.md).
-pub mod account;
 pub mod answer;
 mod digest;
 pub mod error;
 pub mod state;
-pub mod stretches;

@@ -1,23 +1,26 @@
--- `telling::stretches::total` is safe and ends. Assumes nothing.
+-- `marking::stretches::put_stretches` is safe and ends. Assumes nothing.
 use Prim.Native.Nat.{_-_, _≤_}
 use borrow.Author.Needs.{needs}
-use Rattle.telling.proofs.stretches.total.Statement.{statement}
-use Rattle.telling.proofs.stretches.total.Tie as tie
+use Rattle.marking.proofs.stretches.put_stretches.Statement.{statement}
+use Rattle.marking.proofs.stretches.put_stretches.Tie as tie
 
 abbrev Inv-loop : tie.InvT-loop
-Inv-loop table n t₀ i₀ t i = i ≤ n
+Inv-loop out₀ at table n end₀ i₀ out end i = i ≤ n
 
 abbrev μ-loop : tie.MeasureT-loop
-μ-loop table n t₀ i₀ t i = n - i
+μ-loop out₀ at table n end₀ i₀ out end i = n - i
 
 loop-holds : tie.Need-loop-holds Inv-loop μ-loop
 loop-holds c = search needs
 
+add-put-stretch : tie.Need-add-put-stretch Inv-loop μ-loop
+add-put-stretch c = search needs
+
 stretch-at-requires : tie.Need-stretch-at-requires Inv-loop μ-loop
 stretch-at-requires c κs = search needs
 
-plus-requires : tie.Need-plus-requires Inv-loop μ-loop
-plus-requires c κs = search needs
+put-stretch-requires : tie.Need-put-stretch-requires Inv-loop μ-loop
+put-stretch-requires c κs = search needs
 
 add-i : tie.Need-add-i Inv-loop μ-loop
 add-i c = search needs
@@ -31,15 +34,16 @@ loop-again c = search needs
 returns : tie.Need-returns Inv-loop μ-loop
 returns c = search needs
 
-pub total-spec : {M : Type 1} → statement M
-total-spec =
+pub put-stretches-spec : {M : Type 1} → statement M
+put-stretches-spec =
     tie.close
     (tie.spec
     Inv-loop
     μ-loop
     loop-holds
+    add-put-stretch
     stretch-at-requires
-    plus-requires
+    put-stretch-requires
     add-i
     loop-less
     loop-again
