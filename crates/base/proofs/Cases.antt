@@ -1,6 +1,7 @@
--- Worked cases: what a definition gives beside the value that was worked out elsewhere. A list of them holds by computation.
-use mathlib.Core.Path.{_≡_}
-use mathlib.Core.List.{List, map}
+-- Worked cases: what a definition gives beside the value that was worked out elsewhere. A list of them holds by computation; lists
+-- that hold are joined to one that does, whatever their values are of.
+use mathlib.Core.Path.{_≡_, refl, sym, ap, _∙_}
+use mathlib.Core.List.{List, [], _∷_, _++_, map}
 
 pub record Case (A : Type 0) : Type 0 where
   pub given : A
@@ -11,3 +12,30 @@ case given worked = record { given = given; worked = worked }
 
 abbrev pub Hold : {A : Type 0} → List (Case A) → Type 0
 Hold {A} cases = map (λ (x : Case A). x .given) cases ≡ map (λ (x : Case A). x .worked) cases
+
+-- ---- the cases with their values seen through f
+
+abbrev pub seenBy : {A B : Type 0} → (A → B) → List (Case A) → List (Case B)
+seenBy f [] = []
+seenBy f (x ∷ xs) = case (f (x .given)) (f (x .worked)) ∷ seenBy f xs
+
+module _ {A B : Type 0} (f : A → B) where
+  side : (p : Case A → A) (q : Case B → B) → ((x : Case A) → q (case (f (x .given)) (f (x .worked))) ≡ f (p x)) → (xs : List (Case A)) → map q (seenBy f xs) ≡ map f (map p xs)
+  side p q e [] = refl
+  side p q e (x ∷ xs) = rw (e x, side p q e xs) refl
+
+  pub hold-seen : (xs : List (Case A)) → Hold xs → Hold (seenBy f xs)
+  hold-seen xs h = side (λ x. x .given) (λ x. x .given) (λ x. refl) xs ∙ ap (map f) h ∙ sym (side (λ x. x .worked) (λ x. x .worked) (λ x. refl) xs)
+
+-- ---- one list behind another
+
+map-append : {A B : Type 0} (p : A → B) (xs ys : List A) → map p (xs ++ ys) ≡ map p xs ++ map p ys
+map-append p [] ys = refl
+map-append p (x ∷ xs) ys = rw (map-append p xs ys) refl
+
+pub hold-append : {A : Type 0} (xs ys : List (Case A)) → Hold xs → Hold ys → Hold (xs ++ ys)
+hold-append {A} xs ys h k =
+    map-append (λ (x : Case A). x .given) xs ys
+    ∙ ap (λ (l : List A). l ++ map (λ (x : Case A). x .given) ys) h
+    ∙ ap (λ (l : List A). map (λ (x : Case A). x .worked) xs ++ l) k
+    ∙ sym (map-append (λ (x : Case A). x .worked) xs ys)

@@ -1,4 +1,5 @@
--- 01's edges of the session's calls and of the settings, M, by computation. Assumes nothing.
+-- 01's edges, M, as one list, by computation: those of the session's calls and of the settings, with tuning's, iq's and sequence's.
+-- Assumes nothing.
 use mathlib.Core.Path.{refl}
 use Prim.Native.Nat.{ℕ}
 use mathlib.Core.Bool.{Bool}
@@ -12,7 +13,10 @@ use Rattle.model.specs.declared.receiver.Window.{Window}
 use Rattle.model.specs.declared.receiver.Slot.{Slot}
 use Rattle.model.specs.declared.receiver.Slot.the-variants.{Empty, Holds}
 use lib.Ieee.{Float, lt, eq, ofInt, mul, div, add, sub, round}
-use Rattle.base.proofs.Cases.{Case, case, Hold}
+use Rattle.base.proofs.Cases.{Case, case, Hold, seenBy, hold-seen, hold-append}
+use Rattle.tuning.proofs.Edges as Tuning
+use Rattle.iq.proofs.Edges as Iq
+use Rattle.sequence.proofs.Edges as Tracker
 use Rattle.model.proofs.Lists.{usualAt, usual, iqAt, room, silence, readAt}
 use Rattle.model.specs.Session.{step, session}
 use Rattle.model.specs.Routing.{Routed, byOffset, routed}
@@ -58,8 +62,8 @@ arrives now n is = case (after (Begin 0 ∷ []) (Arrival (iqAt now n) room)) (an
 abbrev pub drains : ℕ → ℕ → Call → Slot → Case Given
 drains now n drain is = case (after (Begin 0 ∷ Arrival (iqAt now n) room ∷ []) drain) (answer (slot is))
 
-abbrev pub edges : List (Case Given)
-edges =
+abbrev pub sessionEdges : List (Case Given)
+sessionEdges =
     -- at 48 kHz 100 lost datagrams are 23,800 samples, below half the rate
     arrives 0 106 (heard (Gap 100) 23800)
     ∷ drains 0 106 TakeMissing (Holds 23800)
@@ -79,9 +83,26 @@ edges =
     ∷ case (told (settingsTold (usualAt 65525))) (told (refused 6 []))
     ∷ []
 
-pub edges-hold : Hold edges
+session-edges : Hold sessionEdges
 unfolding pick accepts settingsTold isRate rateAt first khzOf eq ofInt wholeCentre belowNyquist isWhole lt opened newSession newCommon newReceiver step
     begin begunBy orAt begun refilled arrival arrived routed byOffset headerTold rows heardIq heardAs hear eventOf capped
     Sequence.observed Sequence.meant Sequence.less Sequence.after Sequence.zeroRestarts elapsed jumpLimit plausible natOf secondsOf add mul div waits left acceptedBy leftOut used missingOf
     takeOut handOut handed restartMissing rounded sub outage restartOf pendingAfter added belowHalf takeMissing takeDiscontinuity round
-edges-hold = refl
+session-edges = refl
+
+-- ---- all of them
+
+abbrev numbered : List (Case Given)
+numbered = seenBy event Tracker.edges ++ sessionEdges
+
+abbrev received : List (Case Given)
+received = seenBy sample Iq.edges ++ numbered
+
+abbrev pub edges : List (Case Given)
+edges = seenBy number Tuning.edges ++ received
+
+pub edges-hold : Hold edges
+edges-hold =
+    hold-append (seenBy number Tuning.edges) received (hold-seen number Tuning.edges Tuning.edges-hold)
+    (hold-append (seenBy sample Iq.edges) numbered (hold-seen sample Iq.edges Iq.edges-hold)
+    (hold-append (seenBy event Tracker.edges) sessionEdges (hold-seen event Tracker.edges Tracker.edges-hold) session-edges))
