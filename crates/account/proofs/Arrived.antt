@@ -1,10 +1,11 @@
 -- An arrival: the session tells what the book judges, and the two go on saying the same. Assumes nothing.
-use Prim.Native.Nat.{ℕ, _+_, _-_, _%_, _^_}
+use Prim.Native.Nat.{ℕ, _+_, _-_, _<_}
 use mathlib.Core.Path.{_≡_, refl, sym, _∙_, ap, subst}
 use mathlib.Core.Bool.{Bool, true, false}
 use mathlib.Core.List.{List, [], _∷_, append-nil}
 use mathlib.Core.Option.{Option, some, none}
 use native.Mathlib.Omega.{arith}
+use lib.IntN.{ℤ, pos, negsuc, _-ℤ_}
 use borrow.Author.Tests.{ltb-false}
 use Rattle.base.proofs.Picks.{pick-either}
 use Rattle.base.specs.Told.{Told, gives, refused}
@@ -24,7 +25,7 @@ use Rattle.model.specs.Sample.{pairs}
 use Rattle.iq.specs.Iq as Iq
 use Rattle.model.specs.Hearing.{eventOf, restartOf, leftOut, acceptedBy}
 use Rattle.model.specs.Arrival.{withoutPackets, hear, heardAs, heardIq, overload, heardStatus, oneMore, heardMalformed, arrived, atLater, route, arrival}
-use Rattle.account.specs.Whole.{fits, fitsBelow, verdict}
+use Rattle.account.specs.Whole.{countOf, ahead, behind, fits, fitsBelow, verdict}
 use Rattle.account.specs.Book.{Quiet, Came, brought, news, Book, fitIn, belowIn, limitIn, restartIn, missingIn, booked}
 use Rattle.account.specs.Ledger.{Entry, samplesOf}
 use Rattle.account.specs.Ledger as Ledger
@@ -32,7 +33,6 @@ use Rattle.base.specs.Each.{Each}
 use Rattle.account.specs.Demand3.{NearIn, Lies}
 use Rattle.account.specs.Exact.{verdictIn, Exact}
 use Rattle.model.specs.declared.settings.Settings.{Settings}
-use Rattle.account.proofs.Numbers.{past-count}
 use Rattle.account.proofs.Verdict.{Says, says, Rules, rules, stale-is}
 use Rattle.account.proofs.Stretches.{Lost, Right, judged-of}
 use Rattle.model.proofs.Pairs.{datagram-size, datagram-samples, none-past}
@@ -42,15 +42,19 @@ use Rattle.account.proofs.Observes.{past-sent, tells-in, accepted-track
 
 -- ---- what an arrival misses
 
-missing-of : (e n restart : ℕ) (ev : SeqEvent) (f b : Bool) → Says e n ev f b → missingOf ev restart ≡ missingIn (some e) f restart n
+not-ahead : (d : ℤ) → 0 < behind d → ahead d ≡ 0
+not-ahead (pos d) h = absurd (omega arith)
+not-ahead (negsuc d) h = refl
+
+missing-of : (e n : ℤ) (restart : ℕ) (ev : SeqEvent) (f b : Bool) → Says (n -ℤ e) ev f b → missingOf ev restart ≡ missingIn (some e) f restart n
 unfolding missingOf
-missing-of e n restart InOrder f b s = rw (s .1) (omega (arith, s .0))
-missing-of e n restart (Gap k) f b s = rw (s .1) (omega (arith, s .0))
-missing-of e n restart Stale f b s = rw (s .1) (omega (arith, s .0))
+missing-of e n restart InOrder f b s = rw (s .1, s .0) refl
+missing-of e n restart (Gap k) f b s = rw (s .1, s .0 .0) refl
+missing-of e n restart Stale f b s = rw (s .1) (omega (arith, not-ahead (n -ℤ e) (s .0)))
 missing-of e n restart Restart f b s = rw (s .1) refl
 
 -- what the session tells missing is what the book says
-missing-in : (o : Option ℕ) (lim run n restart : ℕ) → missingOf (verdictIn o lim run n) restart ≡ missingIn o (fitIn o lim run n) restart n
+missing-in : (o : Option ℤ) (lim run : ℕ) (n : ℤ) (restart : ℕ) → missingOf (verdictIn o lim run n) restart ≡ missingIn o (fitIn o lim run n) restart n
 unfolding missingOf
 missing-in none lim run n restart = refl
 missing-in (some e) lim run n restart = missing-of e n restart (verdict lim run e n) (fits lim run e n) (fitsBelow run e n) (says lim run e n)
@@ -63,13 +67,13 @@ lost-of Stale restart = refl
 lost-of Restart restart = tt
 
 -- one more stale
-one-more : (o : Option ℕ) (run : ℕ) → _≡_ {A = Rattle.sequence.specs.declared.SeqTracker.SeqTracker} (record { expected = (sentAs o run) .expected; «stale_run» = (sentAs o run) .«stale_run» + 1 }) (sentAs o (run + 1))
+one-more : (o : Option ℤ) (run : ℕ) → _≡_ {A = Rattle.sequence.specs.declared.SeqTracker.SeqTracker} (record { expected = (sentAs o run) .expected; «stale_run» = (sentAs o run) .«stale_run» + 1 }) (sentAs o (run + 1))
 one-more none run = refl
 one-more (some e) run = refl
 
 -- ---- a valid I/Q datagram
 
-module _ (s : Settings) (b : Book) (st : State) (n : ℕ) (h : Same s b st) (i : Incoming) (d : List ℕ) (empty : waitingOf st ≡ []) where
+module _ (s : Settings) (b : Book) (st : State) (n : ℤ) (h : Same s b st) (i : Incoming) (d : List ℕ) (empty : waitingOf st ≡ []) where
   abbrev ev : SeqEvent
   ev = verdictIn (b .expected) (limitIn s b (i .now)) (b .run) n
 
@@ -102,7 +106,7 @@ module _ (s : Settings) (b : Book) (st : State) (n : ℕ) (h : Same s b st) (i :
     exact-of = (refl, told ∙ missing-in (b .expected) (limitIn s b (i .now)) (b .run) n (restartIn s b i n))
 
   abbrev count : ℕ
-  count = n % 2 ^ 32
+  count = countOf n
 
   abbrev seen : SeqEvent
   seen = capped (limitIn s b (i .now)) (observed (st .session .receiver .tracker) count .event)
@@ -113,8 +117,8 @@ module _ (s : Settings) (b : Book) (st : State) (n : ℕ) (h : Same s b st) (i :
     seen-is = rw (h .tracker) (tells-in (b .expected) (limitIn s b (i .now)) (b .run) n near)
 
     -- where it is accepted, so is the tracker
-    tracker-is : isStale ev ≡ false → observed (st .session .receiver .tracker) count .tracker ≡ past n
-    tracker-is f = accepted-tracker (st .session .receiver .tracker) (limitIn s b (i .now)) count (ap isStale seen-is ∙ f) ∙ past-count n
+    tracker-is : isStale ev ≡ false → observed (st .session .receiver .tracker) count .tracker ≡ past count
+    tracker-is f = accepted-tracker (st .session .receiver .tracker) (limitIn s b (i .now)) count (ap isStale seen-is ∙ f)
 
     -- and what it misses: of a restart, by the tracker as the arrival left it
     missing-is : missingOf ev (restartOf (s .«sample_rate_hz») (leftOut (st .session .receiver) (i .now) count) (i .now) (i .later) (i .waiting))
@@ -205,7 +209,7 @@ never-refused : (st : State) (i : Incoming) (d : List ℕ) (count : ℕ) → (te
 unfolding heardIq heardAs hear
 never-refused st i d count = pick-either _ _ _ (λ (x : Step State). (tells (x .reply .answer)) .refusal ≡ false) (λ _. refl) (λ _. refl)
 
-module _ (s : Settings) (b : Book) (st : State) (n : ℕ) (h : Same s b st) (i : Incoming) (d : List ℕ) (empty : waitingOf st ≡ []) where
+module _ (s : Settings) (b : Book) (st : State) (n : ℤ) (h : Same s b st) (i : Incoming) (d : List ℕ) (empty : waitingOf st ≡ []) where
   iq-keeps : (k : ℕ) → found s i ≡ iq k → Kept s b st (Arrival i d) n (heardIq st i d k)
   iq-keeps k p =
       record {
@@ -222,7 +226,7 @@ module _ (s : Settings) (b : Book) (st : State) (n : ℕ) (h : Same s b st) (i :
             };
       }
 
-module _ (s : Settings) (b : Book) (st : State) (n : ℕ) (h : Same s b st) (i : Incoming) (d : List ℕ) where
+module _ (s : Settings) (b : Book) (st : State) (n : ℤ) (h : Same s b st) (i : Incoming) (d : List ℕ) where
   abbrev Fine : Step State → Type 0
   Fine = Kept s b st (Arrival i d) n
 

@@ -7,6 +7,7 @@ use mathlib.Core.List.{List, []}
 use lib.ListN.{length}
 use lib.Dec.{T}
 use lib.Ieee.{Float}
+use lib.IntN.{ℤ}
 use Rattle.base.proofs.Picks.{pick-t}
 use Rattle.tuning.specs.Rate.{khzOf}
 use Rattle.model.specs.Settings.{accepts}
@@ -14,8 +15,9 @@ use Rattle.model.specs.Host.{Call, Begin, Pass, Arrival, Take, Close, TakeMissi
 use Rattle.model.specs.State.{State, waitingIn}
 use Rattle.model.specs.Open.{newCommon, newReceiver, newSession, unopened, opened}
 use Rattle.model.specs.Session.{step, openedWith, session}
-use Rattle.account.specs.Book.{Book, blank}
-use Rattle.account.specs.Demand3.{Meets}
+use Rattle.account.specs.Book.{News, Quiet, Began, Took, Came, Book, blank}
+use Rattle.model.specs.Answer.{Tells}
+use Rattle.account.specs.Demand3.{Mute, Meets}
 use Rattle.account.specs.Exact.{Exact, TellsAll}
 use Rattle.model.specs.declared.settings.Settings.{Settings}
 use Rattle.model.proofs.Pairs.{none-past}
@@ -24,7 +26,7 @@ use Rattle.account.proofs.Same.{waitingOf, Same, Kept, begin-keeps, pas
 use Rattle.account.proofs.Arrived.{arrival-keeps}
 
 module _ (s : Settings) where
-  pub keeps : (b : Book) (st : State) (n : ℕ) → Same s b st → (c : Call) → Kept s b st c n (step st c)
+  pub keeps : (b : Book) (st : State) (n : ℤ) → Same s b st → (c : Call) → Kept s b st c n (step st c)
   unfolding step
   keeps b st n h (Begin now) = begin-keeps s b st n h now
   keeps b st n h (Pass now d) = pass-keeps s b st n h now d
@@ -34,6 +36,13 @@ module _ (s : Settings) where
   keeps b st n h TakeMissing = missing-keeps s b st n h
   keeps b st n h TakeDiscontinuity = discontinuity-keeps s b st n h
   keeps b st n h TakeStalled = stalled-keeps s b st n h
+
+-- of what is told exactly, a call that brings no arrival tells nothing
+pub mute : (s : Settings) (b : Book) (w : News) (n : ℤ) (a : Tells) → Exact s b w n a → Mute w a
+mute s b (Came i count) n a e = tt
+mute s b Quiet n a e = e
+mute s b (Began now) n a e = e
+mute s b (Took now) n a e = e
 
 is-true : (b : Bool) → T b → b ≡ true
 is-true true h = refl
@@ -60,7 +69,7 @@ module _ (samples : List Float) (size : length samples ≡ 476) (s : Settings) (
 
 module _ (samples : List Float) (size : length samples ≡ 476) where
   pub demand3 : Meets (session samples)
-  demand3 s now calls ok = meets s (session samples) (Same s) (Exact s) (keeps s) now (at-first samples size s now ok) (none-waits samples size s now ok) calls
+  demand3 s now calls ok = meets s (session samples) (Same s) (Exact s) (keeps s) now (at-first samples size s now ok) (none-waits samples size s now ok) calls (mute s)
 
   -- and every answer is the book's
   pub tells-all : TellsAll (session samples)

@@ -10,7 +10,6 @@ pub mod Observes
 pub mod Arrived
 pub mod Demand3
 pub mod Numbering
-pub mod Integers
 -- trials: lists of calls, wrong hosts, worked cases
 pub mod Lists
 pub mod WrongHosts

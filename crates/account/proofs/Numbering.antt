@@ -1,20 +1,25 @@
 -- The demand's premise can always be met: every list of calls has whole numbers that lie as the demand says. Assumes nothing.
-use Prim.Native.Nat.{ℕ, _+_, _-_, _*_, _%_, _≤_, _<_, _^_}
-use mathlib.Core.Path.{_≡_, refl, ap}
-use mathlib.Core.Bool.{Bool, true, false, cond}
+use Prim.Native.Nat.{ℕ, _-_, _<_, _^_}
+use mathlib.Core.Path.{_≡_, refl, ap, _∙_}
+use mathlib.Core.Bool.{Bool, true, false}
 use mathlib.Core.List.{List, [], _∷_, _++_}
 use mathlib.Core.Option.{Option, some, none}
 use native.Mathlib.Omega.{arith}
-use native.Mathlib.Numerals.{add-one}
-use lib.ListN.{length, getD}
+use native.Mathlib.Decide.{decLt}
+use lib.Dec.{ltb}
+use lib.IntN.{ℤ, pos, negsuc, _+ℤ_, _-ℤ_, +ℤ-comm, +ℤ-negℤ-cancel}
+use borrow.Author.Tests.{lt-ltb, le-ltb}
+use Rattle.base.specs.Pick.{pick}
+use Rattle.sequence.specs.Tracker.{less}
+use lib.ListN.{getD}
 use Rattle.octets.proofs.Numbers.{beAt-lt}
 use Rattle.base.proofs.Picks.{pick-either}
 use Rattle.base.specs.Told.{Told}
 use Rattle.iq.specs.Iq.{rows, headerTold}
 use Rattle.model.specs.Routing.{Routed, iq, status, ignored, malformed, byHeader, byOffset, routed}
 use Rattle.model.specs.Host.{Incoming, Call, Begin, Pass, Arrival, Take, Close, TakeMissing, TakeDiscontinuity, TakeStalled, Reply, Host, trace}
-use Rattle.account.specs.Whole.{Near}
-use Rattle.account.specs.Book.{News, Quiet, Began, Took, Came, brought, news, Book, blank, late, noted}
+use Rattle.account.specs.Whole.{countOf, Near}
+use Rattle.account.specs.Book.{News, Quiet, Began, Took, Came, brought, news, Book, blank, noted}
 use Rattle.model.specs.Answer.{Tells, tells}
 use Rattle.account.specs.Ledger.{Sent, callsOf, paired, Entry, entry, ledger}
 use Rattle.base.specs.Each.{Each}
@@ -23,24 +28,36 @@ use Rattle.account.specs.Numbering.{OfOctets, AllOfOctets, Numbered}
 use Rattle.model.specs.declared.sender.Sender.{Sender}
 use Rattle.model.specs.declared.sender.Sender.the-variants.{V4, V6}
 use Rattle.model.specs.declared.settings.Settings.{Settings}
-use Rattle.account.proofs.Stretches.{next-is}
+use Rattle.account.proofs.Numbers.{count-small, count-on, count-back}
 
--- the number next to e that leaves the count
-near : ℕ → ℕ → ℕ
-near e count = e - 2 ^ 31 + (count + 2 ^ 32 - (e - 2 ^ 31) % 2 ^ 32) % 2 ^ 32
+-- the distance of the number next to e with a count that lies d past e's, modulo 2^32
+near : ℕ → ℤ
+near d = pick (ltb d (2 ^ 31)) (pos d) (negsuc (2 ^ 32 - 1 - d))
 
-near-is : (e count : ℕ) → count < 2 ^ 32 → 2 ^ 31 ≤ e → (near e count % 2 ^ 32 ≡ count) × Near e (near e count) × (e ≤ near e count + 2 ^ 31)
-unfolding near
-near-is e count h k = (omega arith, record { low = omega arith; high = omega arith }, omega arith)
+abbrev choose : Option ℤ → ℕ → ℤ
+choose none c = pos c
+choose (some e) c = e +ℤ near (less c (countOf e))
 
-abbrev choose : Option ℕ → ℕ → ℕ → ℕ
-choose none left c = 2 ^ 32 * (left + 1) + c
-choose (some e) left c = near e c
+taken-back : (e d : ℤ) → e +ℤ d -ℤ e ≡ d
+taken-back e d = ap (λ (z : ℤ). z -ℤ e) (+ℤ-comm e d) ∙ +ℤ-negℤ-cancel d e
 
--- e is high enough for the calls that are left
-abbrev High : Option ℕ → ℕ → Type 0
-High none left = Unit {0}
-High (some e) left = 2 ^ 31 * (left + 1) ≤ e
+-- it has the count, and lies near
+chosen : (e : ℤ) (c : ℕ) → c < 2 ^ 32 → (countOf (choose (some e) c) ≡ c) × Near e (choose (some e) c)
+unfolding near pick less
+chosen e c small =
+    elim (decLt (less c (countOf e)) (2 ^ 31)) [
+      | yes h ↦ rw (lt-ltb (less c (countOf e)) (2 ^ 31) h) (
+        count-on e (less c (countOf e)) ∙ omega (arith, count-small e),
+        record { low = rw (taken-back e (pos (less c (countOf e)))) (omega arith); high = rw (taken-back e (pos (less c (countOf e)))) h },
+      )
+      | no h ↦ rw (le-ltb (less c (countOf e)) (2 ^ 31) (omega arith)) (
+        count-back e (2 ^ 32 - 1 - less c (countOf e)) (omega arith) ∙ omega (arith, count-small e),
+        record {
+          low = rw (taken-back e (negsuc (2 ^ 32 - 1 - less c (countOf e)))) (omega (arith, h));
+          high = rw (taken-back e (negsuc (2 ^ 32 - 1 - less c (countOf e)))) (omega arith);
+        },
+      )
+    ]
 
 -- ---- a datagram's count is below 2^32
 
@@ -84,47 +101,37 @@ count-of i status = refl
 count-of i ignored = refl
 count-of i malformed = refl
 
-count-small : (s : Settings) (c : Call) (t : Bool) → OfOctets c → count (news s c t) < 2 ^ 32
-count-small s c true h = omega arith
-count-small s (Arrival i d) false h =
+count-small-in : (s : Settings) (c : Call) (t : Bool) → OfOctets c → count (news s c t) < 2 ^ 32
+count-small-in s c true h = omega arith
+count-small-in s (Arrival i d) false h =
     rw (count-of i (routed (s .«radio_ip») (s .port) (i .from) (i .octets))) (routed-small (s .«radio_ip») (s .port) (i .from) (i .octets) h)
-count-small s (Begin now) false h = omega arith
-count-small s (Pass now d) false h = omega arith
-count-small s (Take now buffer) false h = omega arith
-count-small s (Close d) false h = omega arith
-count-small s TakeMissing false h = omega arith
-count-small s TakeDiscontinuity false h = omega arith
-count-small s TakeStalled false h = omega arith
+count-small-in s (Begin now) false h = omega arith
+count-small-in s (Pass now d) false h = omega arith
+count-small-in s (Take now buffer) false h = omega arith
+count-small-in s (Close d) false h = omega arith
+count-small-in s TakeMissing false h = omega arith
+count-small-in s TakeDiscontinuity false h = omega arith
+count-small-in s TakeStalled false h = omega arith
 
--- ---- the number chosen lies right, and keeps what is expected high
+-- ---- the number chosen lies right
 
-module _ (left c : ℕ) (small : c < 2 ^ 32) where
-  chosen : (o : Option ℕ) → High o (left + 1) → (choose o left c % 2 ^ 32 ≡ c) × NearIn o (choose o left c) × High (some (choose o left c + 1)) left × High o left
-  chosen none h = (omega arith, tt, omega arith, tt)
-  chosen (some e) h = let n = near-is e c small (omega arith) in (n .0, n .1, omega (arith, n .2), omega arith)
-
-high-cond : (t : Bool) (o p : Option ℕ) (left : ℕ) → High o left → High p left → High (cond t o p) left
-high-cond true o p left h k = h
-high-cond false o p left h k = k
+lies-at : (o : Option ℤ) (c : ℕ) → c < 2 ^ 32 → (countOf (choose o c) ≡ c) × NearIn o (choose o c)
+lies-at none c small = (omega arith, tt)
+lies-at (some e) c small = chosen e c small
 
 each-append : (xs ys : List Entry) → Each Lies xs → Each Lies ys → Each Lies (xs ++ ys)
 each-append [] ys h k = k
 each-append (x ∷ xs) ys h k = (h .0, each-append xs ys (h .1) k)
 
-module _ (s : Settings) where
-  -- the entries of a line, numbered so, lie right, and what is expected after it is high enough
-  module _ (b : Book) (left : ℕ) (high : High (b .expected) (left + 1)) where
-    fine : (w : News) (a : Tells) → count w < 2 ^ 32 →
-        Each Lies (entry b w (choose (b .expected) left (count w)) a) × High ((noted s b w (choose (b .expected) left (count w))) .expected) left
-    fine (Came i c) a small =
-        let k = chosen left c small (b .expected) high in
-        let x : Entry = record { book = b; incoming = i; count = c; number = choose (b .expected) left c; says = a } in
-        (((k .0, k .1), tt), rw (next-is s x) (high-cond (late b (x .number)) (b .expected) (some (x .number + 1)) left (k .3) (k .2)))
-    fine Quiet a small = (tt, chosen left 0 small (b .expected) high .3)
-    fine (Began now) a small = (tt, chosen left 0 small (b .expected) high .3)
-    fine (Took now) a small = (tt, chosen left 0 small (b .expected) high .3)
+-- the entries of a line, numbered so
+fine : (b : Book) (w : News) (a : Tells) → count w < 2 ^ 32 → Each Lies (entry b w (choose (b .expected) (count w)) a)
+fine b (Came i c) a small = (lies-at (b .expected) c small, tt)
+fine b Quiet a small = tt
+fine b (Began now) a small = tt
+fine b (Took now) a small = tt
 
-  module _ (h : Host) (b : Book) (at : h .State) (c : Call) (left : ℕ) where
+module _ (s : Settings) where
+  module _ (h : Host) (b : Book) (at : h .State) (c : Call) where
     abbrev got : Reply
     got = (h .step at c) .reply
 
@@ -132,24 +139,23 @@ module _ (s : Settings) where
     seen = news s c ((tells (got .answer)) .refusal)
 
     abbrev sent : Sent
-    sent = record { call = c; number = choose (b .expected) left (count seen) }
+    sent = record { call = c; number = choose (b .expected) (count seen) }
 
   abbrev number : (h : Host) → Book → h .State → List Call → List Sent
   number h b at [] = []
-  number h b at (c ∷ cs) =
-      sent h b at c (length cs) ∷ number h (noted s b (seen h b at c (length cs)) ((sent h b at c (length cs)) .number)) ((h .step at c) .state) cs
+  number h b at (c ∷ cs) = sent h b at c ∷ number h (noted s b (seen h b at c) ((sent h b at c) .number)) ((h .step at c) .state) cs
 
-  lies : (h : Host) (b : Book) (at : h .State) (cs : List Call) → AllOfOctets cs → High (b .expected) (length cs) →
+  lies : (h : Host) (b : Book) (at : h .State) (cs : List Call) → AllOfOctets cs →
       Each Lies (ledger s b (paired s (number h b at cs) (trace h at (callsOf (number h b at cs)))))
-  lies h b at [] p k = tt
-  lies h b at (c ∷ cs) p k =
-      let w = seen h b at c (length cs) in
-      let n = (sent h b at c (length cs)) .number in
-      let a = tells ((got h b at c (length cs)) .answer) in
+  lies h b at [] p = tt
+  lies h b at (c ∷ cs) p =
+      let w = seen h b at c in
+      let n = (sent h b at c) .number in
+      let a = tells ((got h b at c) .answer) in
       let next = number h (noted s b w n) ((h .step at c) .state) cs in
-      let f = fine b (length cs) (rw (add-one (length cs)) k) w a (count-small s c (a .refusal) (p .0)) in
-      each-append (entry b w n a) (ledger s (noted s b w n) (paired s next (trace h ((h .step at c) .state) (callsOf next)))) (f .0)
-      (lies h (noted s b w n) ((h .step at c) .state) cs (p .1) (f .1))
+      each-append (entry b w n a) (ledger s (noted s b w n) (paired s next (trace h ((h .step at c) .state) (callsOf next))))
+      (fine b w a (count-small-in s c (a .refusal) (p .0)))
+      (lies h (noted s b w n) ((h .step at c) .state) cs (p .1))
 
   calls-of : (h : Host) (b : Book) (at : h .State) (cs : List Call) → callsOf (number h b at cs) ≡ cs
   calls-of h b at [] = refl
@@ -160,5 +166,5 @@ pub numbered : (h : Host) (s : Settings) (now : ℕ) (calls : List Call) → All
 numbered h s now calls p = (
   number s h (blank now) (h .opened s now) calls,
   calls-of s h (blank now) (h .opened s now) calls,
-  lies s h (blank now) (h .opened s now) calls p tt,
+  lies s h (blank now) (h .opened s now) calls p,
 )

@@ -1,25 +1,28 @@
 -- The tracker after an arrival, by what the arrival is told. Assumes nothing.
-use Prim.Native.Nat.{ℕ, _+_, _%_, _^_}
+use Prim.Native.Nat.{ℕ, _+_}
 use mathlib.Core.Path.{_≡_, refl, sym, ap, _∙_}
 use mathlib.Core.Bool.{true, false}
 use mathlib.Core.Option.{Option, some, none}
 use native.Mathlib.Omega.{arith}
 use lib.Dec.{leb}
+use lib.IntN.{ℤ, pos, _+ℤ_}
 use Rattle.base.proofs.Picks.{pick-either}
 use Rattle.sequence.specs.Tracker.{after, past, less, meant, meaning, moved, observed}
 use Rattle.sequence.specs.declared.SeqEvent.{SeqEvent}
 use Rattle.sequence.specs.declared.SeqEvent.the-variants.{InOrder, Gap, Stale, Restart}
 use Rattle.sequence.specs.declared.SeqTracker.{SeqTracker}
+use Rattle.sequence.specs.declared.Expected.the-variants.{Next}
 use Rattle.model.specs.Rules.{capped, isStale}
+use Rattle.account.specs.Whole.{countOf}
 use Rattle.account.specs.Demand3.{NearIn}
 use Rattle.account.specs.Exact.{verdictIn}
-use Rattle.account.proofs.Numbers.{verdict-told}
+use Rattle.account.proofs.Numbers.{count-on, verdict-told}
 use Rattle.account.proofs.Same.{sentAs}
 
 -- the tracker past n is the book's, expecting n + 1
-pub past-sent : (n : ℕ) → past n ≡ sentAs (some (n + 1)) 0
+pub past-sent : (n : ℤ) → past (countOf n) ≡ sentAs (some (n +ℤ pos 1)) 0
 unfolding after
-past-sent n = refl
+past-sent n = ap (λ (k : ℕ). record { expected = Next k; «stale_run» = 0 }) (sym (count-on n 1))
 
 moved-event : (t : SeqTracker) (seq : ℕ) (ev : SeqEvent) → moved t seq ev .event ≡ ev
 moved-event t seq InOrder = refl
@@ -28,11 +31,11 @@ moved-event t seq Stale = refl
 moved-event t seq Restart = refl
 
 -- the tracker, and the limit, tell the verdict
-pub tells-in : (o : Option ℕ) (lim run n : ℕ) → NearIn o n → capped lim (observed (sentAs o run) (n % 2 ^ 32) .event) ≡ verdictIn o lim run n
+pub tells-in : (o : Option ℤ) (lim run : ℕ) (n : ℤ) → NearIn o n → capped lim (observed (sentAs o run) (countOf n) .event) ≡ verdictIn o lim run n
 unfolding observed capped
 tells-in none lim run n near = refl
 tells-in (some e) lim run n near =
-    ap (capped lim) (moved-event (sentAs (some e) run) (n % 2 ^ 32) (meant (less (n % 2 ^ 32) (e % 2 ^ 32)) run (n % 2 ^ 32)))
+    ap (capped lim) (moved-event (sentAs (some e) run) (countOf n) (meant (less (countOf n) (countOf e)) run (countOf n)))
     ∙ verdict-told lim run e n near
 
 module _ (t : SeqTracker) (lim seq : ℕ) where

@@ -4,6 +4,7 @@ use mathlib.Core.Path.{_≡_, refl}
 use mathlib.Core.Bool.{Bool}
 use mathlib.Core.List.{[]}
 use lib.ListN.{length}
+use lib.IntN.{ℤ}
 use Rattle.base.proofs.Picks.{pick-either}
 use Rattle.model.specs.Sample.{pairs}
 use Rattle.model.specs.Host.{Call, Begin, Pass, Arrival, Take, Close, TakeMissing, TakeDiscontinuity, TakeStalled}
@@ -18,7 +19,7 @@ use Rattle.account.proofs.WrongHosts.{refusing}
 use Rattle.model.specs.declared.settings.Settings.{Settings}
 use Rattle.account.proofs.Simulate.{meets}
 use Rattle.account.proofs.Same.{Same, Kept, still}
-use Rattle.account.proofs.Demand3.{keeps, at-first, none-waits}
+use Rattle.account.proofs.Demand3.{mute, keeps, at-first, none-waits}
 
 gives-none : (st : State) (c : Call) → gave c (refuse 12 (lentPackets c) (lentBuffer c) st .reply) ≡ []
 unfolding pairs
@@ -32,7 +33,7 @@ gives-none st TakeDiscontinuity = refl
 gives-none st TakeStalled = refl
 
 module _ (p : State → Call → Bool) where
-  refusing-keeps : (s : Settings) (b : Book) (st : State) (n : ℕ) → Same s b st → (c : Call) → Kept s b st c n (refusing p .step st c)
+  refusing-keeps : (s : Settings) (b : Book) (st : State) (n : ℤ) → Same s b st → (c : Call) → Kept s b st c n (refusing p .step st c)
   refusing-keeps s b st n h c =
       pick-either _ _ _ (Kept s b st c n)
       (λ _. still s b st n h c (refuse 12 (lentPackets c) (lentBuffer c) st) refl refl refl (gives-none st c) (h .settings) refl refl refl refl refl refl)
@@ -41,4 +42,4 @@ module _ (p : State → Call → Bool) where
   pub refusing-passes : Meets (refusing p)
   refusing-passes s now calls ok =
       let size : length silence ≡ 476 = refl in
-      meets s (refusing p) (Same s) (Exact s) (refusing-keeps s) now (at-first silence size s now ok) (none-waits silence size s now ok) calls
+      meets s (refusing p) (Same s) (Exact s) (refusing-keeps s) now (at-first silence size s now ok) (none-waits silence size s now ok) calls (mute s)

@@ -1,11 +1,12 @@
 -- The session and the book say the same of the stream, and every call but an arrival keeps that. Assumes nothing.
-use Prim.Native.Nat.{ℕ, _-_, _/_, _%_, min, _^_}
+use Prim.Native.Nat.{ℕ, _-_, _/_, min}
 use mathlib.Core.Path.{_≡_, refl, sym, ap, _∙_}
 use mathlib.Core.List.{List, [], append-nil}
 use mathlib.Core.Option.{Option, some, none}
 use native.Mathlib.Omega.{arith}
 use lib.ListN.{length}
 use lib.Ieee.{Float}
+use lib.IntN.{ℤ}
 use Rattle.base.proofs.Picks.{pick-either}
 use Rattle.sequence.specs.declared.SeqTracker.{SeqTracker}
 use Rattle.sequence.specs.declared.Expected.the-variants.{Nothing, Next}
@@ -18,6 +19,7 @@ use Rattle.model.specs.Pass.{stallSoft, stallHard, passed, pass}
 use Rattle.model.specs.Take.{handed, handOut, takeOut}
 use Rattle.model.specs.Close.{stop, close}
 use Rattle.model.specs.Drain.{takeMissing, takeDiscontinuity, takeStalled}
+use Rattle.account.specs.Whole.{countOf}
 use Rattle.account.specs.Book.{Quiet, news, Book}
 use Rattle.model.specs.Answer.{tells}
 use Rattle.account.specs.Ledger.{gave}
@@ -29,9 +31,9 @@ use Rattle.model.proofs.Sends.{due-steady, stop-steady}
 use Rattle.account.proofs.Simulate
 
 -- the tracker that expects the book's number
-abbrev pub sentAs : Option ℕ → ℕ → SeqTracker
+abbrev pub sentAs : Option ℤ → ℕ → SeqTracker
 sentAs none run = record { expected = Nothing; «stale_run» = run }
-sentAs (some e) run = record { expected = Next (e % 2 ^ 32); «stale_run» = run }
+sentAs (some e) run = record { expected = Next (countOf e); «stale_run» = run }
 
 abbrev pub waitingOf : State → List Sample
 waitingOf st = waitingIn (st .session .receiver) (st .samples)
@@ -45,10 +47,10 @@ module _ (s : Settings) where
     pub window : st .session .receiver .parked .window ≡ b .window
     pub size : length (st .samples) ≡ 476
 
-  abbrev pub Kept : Book → State → Call → ℕ → Step State → Type 0
+  abbrev pub Kept : Book → State → Call → ℤ → Step State → Type 0
   Kept = Simulate.Kept s State waitingOf Same (Exact s)
 
-  module _ (b : Book) (st : State) (n : ℕ) (h : Same b st) where
+  module _ (b : Book) (st : State) (n : ℤ) (h : Same b st) where
     -- a call that the book does not see: it tells nothing and hands nothing out, and what it leaves expects, holds and waits for the same
     pub still : (c : Call) (x : Step State) →
         news s c ((tells (x .reply .answer)) .refusal) ≡ Quiet →

@@ -1,6 +1,6 @@
 -- Of arrivals that are told what the whole numbers say: the sums of each stretch. Assumes nothing.
-use Prim.Native.Nat.{ℕ, _+_, _*_, _≤_, _<_, max}
-use mathlib.Core.Path.{_≡_, refl, _∙_, ap, subst}
+use Prim.Native.Nat.{ℕ, _+_, _*_}
+use mathlib.Core.Path.{_≡_, refl, sym, _∙_, ap, subst}
 use mathlib.Core.Logic.{_≢_, _⊎_, inl, inr}
 use mathlib.Core.Bool.{Bool, true, false, cond}
 use mathlib.Core.List.{List, [], _∷_, _++_, cons-ne-nil}
@@ -8,6 +8,11 @@ use mathlib.Core.Option.{Option, some, none}
 use native.Mathlib.Omega.{arith}
 use lib.ListN.{length, length-append}
 use lib.Dec.{T}
+use lib.IntN.{ℤ, pos, _+ℤ_, _-ℤ_, +ℤ-assoc, +ℤ-comm, +ℤ-idr, +ℤ-negℤ-cancel}
+use borrow.Author.Tests.{lt-ltb}
+use Rattle.base.specs.Pick.{pick}
+use Rattle.account.specs.Whole.{Below, higher}
+use Rattle.account.proofs.Numbers.{from-distance}
 use Rattle.sequence.specs.declared.SeqEvent.{SeqEvent}
 use Rattle.sequence.specs.declared.SeqEvent.the-variants.{InOrder, Gap, Stale, Restart}
 use Rattle.account.specs.Book.{Book, limitIn, booked}
@@ -29,30 +34,45 @@ cond-expected : (t : Bool) (p q : Book) → (cond t p q) .expected ≡ cond t (p
 cond-expected true p q = refl
 cond-expected false p q = refl
 
-max-right : (h n : ℕ) → h < n → max h n ≡ n
-max-right h n l = omega arith
+-- ---- the next accepted number, k + 1 past h
 
--- what is to be shown of the accepted entries after the number h, with m missing
-abbrev AddUp : ℕ → List Entry → ℕ → Type 0
-AddUp h l m = Rising h l × (length (samplesOf l) + m + 238 * h ≡ 238 * highest h l) × (h ≤ highest h l)
+-- e is h + 1, and n is k past e
+past-e : (h n : ℤ) (k : ℕ) → n -ℤ (h +ℤ pos 1) ≡ pos k → n ≡ h +ℤ pos (k + 1)
+past-e h n k d =
+    from-distance (h +ℤ pos 1) n (pos k) d ∙ +ℤ-assoc h (pos 1) (pos k) ∙ ap (λ (j : ℕ). h +ℤ pos j) (omega arith)
 
-abbrev Adds : ℕ → List Entry → Type 0
+distance-of : (h n : ℤ) (k : ℕ) → n ≡ h +ℤ pos k → n -ℤ h ≡ pos k
+distance-of h n k e = ap (λ (z : ℤ). z -ℤ h) (e ∙ +ℤ-comm h (pos k)) ∙ +ℤ-negℤ-cancel (pos k) h
+
+is-higher : (h n : ℤ) (k : ℕ) → n ≡ h +ℤ pos (k + 1) → higher h n ≡ n
+unfolding pick
+is-higher h n k e = rw (distance-of h n (k + 1) e, lt-ltb 0 (k + 1) (omega arith)) refl
+
+is-above : (h n : ℤ) (k : ℕ) → n ≡ h +ℤ pos (k + 1) → Below h n
+is-above h n k e = rw (distance-of h n (k + 1) e) (omega arith)
+
+-- what is to be shown of the accepted entries after the number h, with m missing: they rise to a number that is so many past h
+abbrev AddUp : ℤ → List Entry → ℕ → Type 0
+AddUp h l m = (j : ℕ) × Rising h l × (highest h l ≡ h +ℤ pos j) × (length (samplesOf l) + m ≡ 238 * j)
+
+abbrev Adds : ℤ → List Entry → Type 0
 Adds h xs = AddUp h (acceptedIn xs) (missingTold xs)
 
-more : (h : ℕ) (x : Entry) (l : List Entry) (m k : ℕ) → h < x .number → m + 238 * (h + 1) ≡ 238 * x .number → length (samplesIn x) ≡ 238 → AddUp (x .number) l k → AddUp h (x ∷ l) (m + k)
-more h x l m k up eq w a = (
-  (up, a .0),
-  rw (max-right h (x .number) up) (simp length-append (omega (arith, a .1))),
-  rw (max-right h (x .number) up) (omega (arith, a .2)),
+more : (h : ℤ) (x : Entry) (l : List Entry) (m j k : ℕ) → x .number ≡ h +ℤ pos (k + 1) → m ≡ 238 * k → length (samplesIn x) ≡ 238 → AddUp (x .number) l j → AddUp h (x ∷ l) (m + j)
+more h x l m j k up eq w a = (
+  k + 1 + a .0,
+  (is-above h (x .number) k up, a .1),
+  rw (is-higher h (x .number) k up) (a .2 ∙ ap (λ (z : ℤ). z +ℤ pos (a .0)) up ∙ +ℤ-assoc h (pos (k + 1)) (pos (a .0))),
+  simp length-append (omega (arith, a .3)),
 )
 
 -- an accepted entry, and those after it
-kept : (h : ℕ) (x : Entry) (ys : List Entry) → lateEntry x ≡ false → h < x .number → x .says .missing + 238 * (h + 1) ≡ 238 * x .number → length (samplesIn x) ≡ 238 → Adds (x .number) ys → Adds h (x ∷ ys)
-kept h x ys l up m w a = rw l (more h x (acceptedIn ys) (x .says .missing) (missingTold ys) up m w a)
+kept : (h : ℤ) (x : Entry) (ys : List Entry) (k : ℕ) → lateEntry x ≡ false → x .number ≡ h +ℤ pos (k + 1) → x .says .missing ≡ 238 * k → length (samplesIn x) ≡ 238 → Adds (x .number) ys → Adds h (x ∷ ys)
+kept h x ys k l up m w a = rw l (more h x (acceptedIn ys) (x .says .missing) (missingTold ys) k up m w a)
 
 -- a stale one
-skipped : (h : ℕ) (x : Entry) (ys : List Entry) → lateEntry x ≡ true → x .says .missing ≡ 0 → Adds h ys → Adds h (x ∷ ys)
-skipped h x ys l m a = rw l (a .0, rw m (omega (arith, a .1)), a .2)
+skipped : (h : ℤ) (x : Entry) (ys : List Entry) → lateEntry x ≡ true → x .says .missing ≡ 0 → Adds h ys → Adds h (x ∷ ys)
+skipped h x ys l m a = rw l (a .0, a .1, a .2, rw m (omega (arith, a .3)))
 
 -- one told Restart is accepted
 not-late : (ev : SeqEvent) (f b : Bool) → Rules ev f b → ¬ T f → b ≡ false
@@ -76,11 +96,11 @@ module _ (s : Settings) where
     pub gone : Lost (verdictOf x) (x .says .missing)
     pub whole : length (samplesIn x) ≡ 238
 
-  abbrev pub nextOf : Entry → Option ℕ
-  nextOf x = cond (lateEntry x) (x .book .expected) (some (x .number + 1))
+  abbrev pub nextOf : Entry → Option ℤ
+  nextOf x = cond (lateEntry x) (x .book .expected) (some (x .number +ℤ pos 1))
 
   -- each entry is right, and expects the number after the last accepted one
-  abbrev pub Chained : Option ℕ → List Entry → Type 0
+  abbrev pub Chained : Option ℤ → List Entry → Type 0
   Chained o [] = Unit {0}
   Chained o (x ∷ xs) = (x .book .expected ≡ o) × Right x × Chained (nextOf x) xs
 
@@ -91,7 +111,7 @@ module _ (s : Settings) where
   rules-at : (x : Entry) → Rules (verdictOf x) (fitting s x) (lateEntry x)
   rules-at x = rules (x .book .expected) (limitIn s (x .book) (x .incoming .now)) (x .book .run) (x .number)
 
-  first-of : (o : Option ℕ) (lim run n : ℕ) → o ≡ none → verdictIn o lim run n ≡ InOrder
+  first-of : (o : Option ℤ) (lim run : ℕ) (n : ℤ) → o ≡ none → verdictIn o lim run n ≡ InOrder
   first-of none lim run n e = refl
   first-of (some e) lim run n h = let z : _≡_ {A = ℕ} 0 1 = cc in absurd (omega arith)
 
@@ -107,19 +127,19 @@ module _ (s : Settings) where
   abbrev Going : Entry → Type 0
   Going x = x .says .event ≢ some Restart
 
-  module _ (h : ℕ) (x : Entry) (ys : List Entry) (e : x .book .expected ≡ some (h + 1)) (r : Right x) (going : Going x) where
-    one-step : (ev : SeqEvent) → Lost ev (x .says .missing) → Says (h + 1) (x .number) ev (fitting s x) (lateEntry x) →
+  module _ (h : ℤ) (x : Entry) (ys : List Entry) (e : x .book .expected ≡ some (h +ℤ pos 1)) (r : Right x) (going : Going x) where
+    one-step : (ev : SeqEvent) → Lost ev (x .says .missing) → Says (x .number -ℤ (h +ℤ pos 1)) ev (fitting s x) (lateEntry x) →
         (lateEntry x ≡ false → Adds (x .number) ys) → (lateEntry x ≡ true → Adds h ys) → Adds h (x ∷ ys)
-    one-step InOrder m s a b = kept h x ys (s .2) (omega (arith, s .0)) (omega (arith, s .0)) (r .whole) (a (s .2))
-    one-step (Gap k) m s a b = kept h x ys (s .2) (omega (arith, s .0)) (omega (arith, s .0)) (r .whole) (a (s .2))
+    one-step InOrder m s a b = kept h x ys 0 (s .2) (past-e h (x .number) 0 (s .0)) m (r .whole) (a (s .2))
+    one-step (Gap k) m s a b = kept h x ys k (s .2) (past-e h (x .number) k (s .0 .0)) m (r .whole) (a (s .2))
     one-step Stale m s a b = skipped h x ys (s .2) m (b (s .2))
     one-step Restart m s a b = absurd (going (r .told .restart .1 (rw (s .1) (λ t. t))))
 
-  says-at : (h : ℕ) (x : Entry) → x .book .expected ≡ some (h + 1) → Says (h + 1) (x .number) (verdictOf x) (fitting s x) (lateEntry x)
-  says-at h x e = rw e (says (limitIn s (x .book) (x .incoming .now)) (x .book .run) (h + 1) (x .number))
+  says-at : (h : ℤ) (x : Entry) → x .book .expected ≡ some (h +ℤ pos 1) → Says (x .number -ℤ (h +ℤ pos 1)) (verdictOf x) (fitting s x) (lateEntry x)
+  says-at h x e = rw e (says (limitIn s (x .book) (x .incoming .now)) (x .book .run) (h +ℤ pos 1) (x .number))
 
-  adds : (h : ℕ) (xs : List Entry) → Chained (some (h + 1)) xs → Each Going xs → Adds h xs
-  adds h [] c g = (tt, omega arith, omega arith)
+  adds : (h : ℤ) (xs : List Entry) → Chained (some (h +ℤ pos 1)) xs → Each Going xs → Adds h xs
+  adds h [] c g = (0, tt, sym (+ℤ-idr h), omega arith)
   adds h (x ∷ ys) c g =
       one-step h x ys (c .0) (c .1) (g .0) (verdictOf x) (c .1 .gone) (says-at h x (c .0))
       (λ l. adds (x .number) ys (rw l at (c .2)) (g .1))
@@ -128,11 +148,11 @@ module _ (s : Settings) where
   -- ---- a stretch of chained entries
 
   -- the entries past some of them are chained too
-  past : (o : Option ℕ) (xs ys : List Entry) → Chained o (xs ++ ys) → (p : Option ℕ) × Chained p ys
+  past : (o : Option ℤ) (xs ys : List Entry) → Chained o (xs ++ ys) → (p : Option ℤ) × Chained p ys
   past o [] ys c = (o, c)
   past o (x ∷ xs) ys c = past (nextOf x) xs ys (c .2)
 
-  front : (o : Option ℕ) (xs ys : List Entry) → Chained o (xs ++ ys) → Chained o xs
+  front : (o : Option ℤ) (xs ys : List Entry) → Chained o (xs ++ ys) → Chained o xs
   front o [] ys c = tt
   front o (x ∷ xs) ys c = (c .0, c .1, front (nextOf x) xs ys (c .2))
 
@@ -141,10 +161,11 @@ module _ (s : Settings) where
 
   sums : (x : Entry) (xs rest : List Entry) → Right x → lateEntry x ≡ false → Chained (nextOf x) (xs ++ rest) → Each Going xs → Sums x xs
   sums x xs rest r l c g =
-      let a : Adds (x .number) xs = adds (x .number) xs (front (some (x .number + 1)) xs rest (rw l at c)) g in
+      let a : Adds (x .number) xs = adds (x .number) xs (front (some (x .number +ℤ pos 1)) xs rest (rw l at c)) g in
+      let e : length (samplesOf (x ∷ acceptedIn xs)) + missingTold xs ≡ 238 * (a .0 + 1) = simp length-append (omega (arith, a .3, r .whole)) in
       record {
-        rising = a .0;
-        sum = simp length-append (omega (arith, a .1, a .2, r .whole));
+        rising = a .1;
+        sum = rw (distance-of (x .number) (highest (x .number) (acceptedIn xs)) (a .0) (a .2)) (ap pos e);
       }
 
   starts : (before : List Entry) (x : Entry) (ys : List Entry) → Chained none (before ++ (x ∷ ys)) → (before ≡ []) ⊎ (x .says .event ≡ some Restart) → lateEntry x ≡ false
@@ -158,6 +179,6 @@ module _ (s : Settings) where
       let q = past none before (x ∷ (xs ++ rest)) c′ in
       sums x xs rest (q .1 .1) (starts before x (xs ++ rest) c′ (t .1)) (q .1 .2) (t .2)
 
-  pub each : (o : Option ℕ) (entries : List Entry) → Chained o entries → Each (Judged s) entries
+  pub each : (o : Option ℤ) (entries : List Entry) → Chained o entries → Each (Judged s) entries
   each o [] c = tt
   each o (x ∷ xs) c = (c .1 .told, each (nextOf x) xs (c .2))

@@ -5,6 +5,7 @@ use mathlib.Core.Bool.{Bool, true, false}
 use mathlib.Core.Path.{refl}
 use mathlib.Core.List.{List, [], _∷_}
 use mathlib.Core.Option.{some}
+use lib.IntN.{pos, negsuc}
 use lib.Ieee.{ofInt, mul, div, add, sub, round}
 use Rattle.base.specs.Pick.{pick}
 use Rattle.base.proofs.Cases.{Case, case, Hold}
@@ -32,24 +33,36 @@ no b = case b false
 abbrev pub fitCases : List (Case Bool)
 fitCases =
     -- e itself, also as a multiple of 2^32
-    yes (fits 8192 7 4294967296 4294967296)
+    yes (fits 8192 7 (pos 4294967296) (pos 4294967296))
+    ∷ yes (fits 8192 7 (pos 0) (pos 0))
     -- above by no more than the limit
-    ∷ yes (fits 8192 0 6 8198)
-    ∷ no (fits 8192 0 6 8199)
+    ∷ yes (fits 8192 0 (pos 6) (pos 8198))
+    ∷ no (fits 8192 0 (pos 6) (pos 8199))
     -- below by 1 to 64, after at most six such
-    ∷ yes (fits 8192 6 100 99)
-    ∷ no (fits 8192 7 100 99)
-    ∷ yes (fits 8192 0 100 36)
-    ∷ no (fits 8192 0 100 35)
+    ∷ yes (fits 8192 6 (pos 100) (pos 99))
+    ∷ no (fits 8192 7 (pos 100) (pos 99))
+    ∷ yes (fits 8192 0 (pos 100) (pos 36))
+    ∷ no (fits 8192 0 (pos 100) (pos 35))
     -- a multiple of 2^32 neither above nor below
-    ∷ no (fits 8192 0 4294967290 4294967296)
-    ∷ yes (fits 8192 0 4294967290 4294967297)
-    ∷ no (fits 8192 0 4294967300 4294967296)
-    ∷ yes (fits 8192 0 4294967300 4294967297)
+    ∷ no (fits 8192 0 (pos 4294967290) (pos 4294967296))
+    ∷ yes (fits 8192 0 (pos 4294967290) (pos 4294967297))
+    ∷ no (fits 8192 0 (pos 4294967300) (pos 4294967296))
+    ∷ yes (fits 8192 0 (pos 4294967300) (pos 4294967297))
+    -- the same from -6 up and from 4 down, and at -2^32
+    ∷ no (fits 8192 0 (negsuc 5) (pos 0))
+    ∷ yes (fits 8192 0 (negsuc 5) (pos 1))
+    ∷ yes (fits 8192 0 (negsuc 5) (negsuc 4))
+    ∷ no (fits 8192 0 (pos 4) (pos 0))
+    ∷ yes (fits 8192 0 (pos 4) (negsuc 0))
+    ∷ yes (fits 8192 0 (pos 4) (negsuc 59))
+    ∷ no (fits 8192 0 (pos 4) (negsuc 60))
+    ∷ no (fits 8192 0 (negsuc 4294967299) (negsuc 4294967295))
+    ∷ yes (fits 8192 0 (negsuc 4294967299) (negsuc 4294967294))
     -- which of them lie below
-    ∷ no (fitsBelow 0 6 7)
-    ∷ no (fitsBelow 0 6 6)
-    ∷ yes (fitsBelow 0 6 5)
+    ∷ no (fitsBelow 0 (pos 6) (pos 7))
+    ∷ no (fitsBelow 0 (pos 6) (pos 6))
+    ∷ yes (fitsBelow 0 (pos 6) (pos 5))
+    ∷ yes (fitsBelow 0 (pos 0) (negsuc 0))
     ∷ []
 
 pub fits-hold : Hold fitCases
@@ -60,10 +73,10 @@ fits-hold = refl
 
 -- a book that expects a number since the reading `accepted`, in this window
 abbrev pub bookIn : ℕ → ℕ → Window → Book
-bookIn next accepted w = record { expected = some next; run = 0; acceptedAt = accepted; taken = 0; window = w }
+bookIn next accepted w = record { expected = some (pos next); run = 0; acceptedAt = accepted; taken = 0; window = w }
 
 abbrev misses : ℕ → ℕ → Window → Incoming → ℕ → ℕ → Case ℕ
-misses next accepted w i n is = case (missing usual (bookIn next accepted w) i n) is
+misses next accepted w i n is = case (missing usual (bookIn next accepted w) i (pos n)) is
 
 abbrev pub arrivalCases : List (Case ℕ)
 arrivalCases =

@@ -2,7 +2,7 @@
 use Prim.Native.Nat.{ℕ, _+_, _*_, _-_, _≤_, _<_, _^_}
 use mathlib.Core.Path.{_≡_, refl, sym, ap, _∙_}
 use mathlib.Core.Logic.{inl}
-use mathlib.Core.Option.{some}
+use mathlib.Core.Option.{some, none}
 use mathlib.Core.List.{List, [], _∷_, _++_, append-nil}
 use native.Mathlib.Omega.{arith}
 use lib.ListN.{length, take, drop, length-append, replicate}
@@ -19,7 +19,8 @@ use Rattle.tuning.specs.Centre.{wholeCentre, belowNyquist}
 use Rattle.iq.specs.Iq.{headerTold, rows}
 use Rattle.iq.specs.Iq as Iq
 use Rattle.sequence.specs.Tracker.{after, less, zeroRestarts, meant, observed}
-use Rattle.sequence.specs.declared.SeqEvent.the-variants.{Gap, Stale, Restart}
+use Rattle.sequence.specs.declared.SeqEvent.{SeqEvent}
+use Rattle.sequence.specs.declared.SeqEvent.the-variants.{InOrder, Gap, Stale, Restart}
 use Rattle.model.specs.Settings.{settingsTold, accepts}
 use Rattle.model.specs.Rules.{begun, refilled, used, elapsed, capped, missingOf, outage}
 use Rattle.model.specs.Routing.{byOffset, routed}
@@ -35,7 +36,8 @@ use Rattle.model.specs.Take.{handed, handOut, takeOut}
 use Rattle.model.specs.Close.{stop, close}
 use Rattle.model.specs.Host.{Begin, Close}
 use Rattle.model.specs.Session.{step}
-use Rattle.account.specs.Whole.{Near, fitsAbove, fitsBelow, fits}
+use lib.IntN.{ℤ, pos, natAbs, _+ℤ_, _-ℤ_, _*ℤ_}
+use Rattle.account.specs.Whole.{ahead, behind, Near, fitsAbove, fitsBelow, fits}
 use Rattle.account.specs.Ledger.{Sent, Line, handedOut, Entry, acceptedIn, samplesIn, samplesOf, missingTold, highest}
 use Rattle.account.specs.Demand3.{Agrees, Sums}
 use Rattle.account.proofs.WrongHosts.{Refuted}
@@ -47,7 +49,7 @@ pub usual-accepted : T (accepts usual)
 unfolding accepts settingsTold pick isRate rateAt first eq ofInt wholeCentre belowNyquist isWhole lt
 usual-accepted = tt
 
-near : (e n : ℕ) → e ≤ n + 2 ^ 31 → n < e + 2 ^ 31 → Near e n
+near : (e n : ℤ) → behind (n -ℤ e) ≤ 2 ^ 31 → ahead (n -ℤ e) < 2 ^ 31 → Near e n
 near e n l h = record { low = l; high = h }
 
 -- each arrival has 238 samples
@@ -56,8 +58,8 @@ samples-of [] = refl
 samples-of (x ∷ xs) = length-append (samplesIn x) (samplesOf xs) ∙ omega (arith, datagram-samples (x .incoming .octets), samples-of xs)
 
 -- a stretch's sum with its samples counted
-sum-of : (x : Entry) (xs : List Entry) → Sums x xs → 238 * length (x ∷ acceptedIn xs) + missingTold xs ≡ 238 * (highest (x .number) (acceptedIn xs) - x .number + 1)
-sum-of x xs s = ap (λ (k : ℕ). k + missingTold xs) (sym (samples-of (x ∷ acceptedIn xs))) ∙ s .sum
+sum-of : (x : Entry) (xs : List Entry) → Sums x xs → 238 * length (x ∷ acceptedIn xs) + missingTold xs ≡ natAbs (pos 238 *ℤ (highest (x .number) (acceptedIn xs) -ℤ x .number +ℤ pos 1))
+sum-of x xs s = ap (λ (k : ℕ). k + missingTold xs) (sym (samples-of (x ∷ acceptedIn xs))) ∙ ap natAbs (s .sum)
 
 -- as many samples were handed out or wait as were accepted
 handed-of : (s : Settings) (ls : List Line) (waiting : List Sample) (entries : List Entry) → Agrees s ls waiting entries → length (handedOut ls ++ waiting) ≡ 238 * length (acceptedIn entries)
@@ -74,6 +76,12 @@ doubled l buffer h =
 gap-apart : (k : ℕ) → some (Gap k) ≡ some Restart → ⊥
 gap-apart k e = let z : _≡_ {A = ℕ} 0 1 = cc in omega arith
 
+order-apart : some InOrder ≡ some Restart → ⊥
+order-apart e = let z : _≡_ {A = ℕ} 0 1 = cc in omega arith
+
+told-apart : (v : SeqEvent) → some v ≡ none → ⊥
+told-apart v e = let z : _≡_ {A = ℕ} 0 1 = cc in omega arith
+
 stale-apart : some Stale ≡ some Restart → ⊥
 stale-apart e = let z : _≡_ {A = ℕ} 0 1 = cc in omega arith
 
@@ -82,8 +90,8 @@ abbrev gap : List Sent
 gap = readAt 0 5 ++ readAt 0 7
 
 -- 101 is expected
-abbrev late : (_≡_ {A = ℕ} 100 100) × Near 101 100
-late = (refl, near 101 100 (omega arith) (omega arith))
+abbrev late : (_≡_ {A = ℕ} 100 100) × Near (pos 101) (pos 100)
+late = (refl, near (pos 101) (pos 100) (omega arith) (omega arith))
 
 pub refuted : Refuted
 unfolding pick accepts settingsTold isRate rateAt first eq ofInt wholeCentre belowNyquist isWhole lt opened newSession newCommon newReceiver step
@@ -93,20 +101,31 @@ unfolding pick accepts settingsTold isRate rateAt first eq ofInt wholeCentre bel
 refuted =
     record {
       invents = λ m.
-          let a = m usual 0 gap usual-accepted ((refl, tt), ((refl, near 6 7 (omega arith) (omega arith)), tt)) in
+          let a = m usual 0 gap usual-accepted ((refl, tt), ((refl, near (pos 6) (pos 7) (omega arith) (omega arith)), tt)) in
           let z : _≡_ {A = ℕ} 952 714 = sum-of _ _ (a .sums [] _ (_ ∷ []) [] (refl, inl refl, (gap-apart 1, tt))) in
           omega arith;
       inventsOutages = λ m.
-          let a = m usual 0 (readAt 0 5 ++ readAt 0 0) usual-accepted ((refl, tt), ((refl, near 6 0 (omega arith) (omega arith)), tt)) in
+          let a = m usual 0 (readAt 0 5 ++ readAt 0 0) usual-accepted ((refl, tt), ((refl, near (pos 6) (pos 0) (omega arith) (omega arith)), tt)) in
           let z : _≡_ {A = ℕ} 48000 0 = a .1 .1 .1 .1 .0 .1 in
           omega arith;
       hushes = λ m.
-          let a = m usual 0 gap usual-accepted ((refl, tt), ((refl, near 6 7 (omega arith) (omega arith)), tt)) in
+          let a = m usual 0 gap usual-accepted ((refl, tt), ((refl, near (pos 6) (pos 7) (omega arith) (omega arith)), tt)) in
           let z : _≡_ {A = ℕ} 476 714 = sum-of _ _ (a .sums [] _ (_ ∷ []) [] (refl, inl refl, (gap-apart 1, tt))) in
           omega arith;
+      fixed = λ m.
+          let a = m usual 0 gap usual-accepted ((refl, tt), ((refl, near (pos 6) (pos 7) (omega arith) (omega arith)), tt)) in
+          let z : _≡_ {A = ℕ} 476 714 = sum-of _ _ (a .sums [] _ (_ ∷ []) [] (refl, inl refl, (order-apart, tt))) in
+          omega arith;
+      -- no datagram came
+      shouts = λ m.
+          let a = m usual 0 (plain (Begin 0) ∷ []) usual-accepted tt in
+          told-apart Restart (a .others .0 .0);
+      shoutsAtMalformed = λ m.
+          let a = m usual 0 (plain (Begin 0) ∷ noise 0 ∷ []) usual-accepted tt in
+          told-apart Restart (a .others .1 .0 .0);
       -- the second fits
       restarts = λ m.
-          let a = m usual 0 (readAt 0 5 ++ readAt 0 6) usual-accepted ((refl, tt), ((refl, near 6 6 (omega arith) (omega arith)), tt)) in
+          let a = m usual 0 (readAt 0 5 ++ readAt 0 6) usual-accepted ((refl, tt), ((refl, near (pos 6) (pos 6) (omega arith) (omega arith)), tt)) in
           a .each .1 .0 .restart .0 refl tt;
       drops = λ m.
           let a = m usual 0 (plain (Begin 0) ∷ arrive 0 5 ∷ plain (Close (replicate 2888 0)) ∷ []) usual-accepted ((refl, tt), tt) in
@@ -119,7 +138,7 @@ refuted =
       -- 101 is expected, also after 90
       advances = λ m.
           let a = m usual 0 (readAt 0 100 ++ (plain (Begin 0) ∷ arrive 0 90 ∷ arrive 0 101 ∷ [])) usual-accepted
-          ((refl, tt), ((refl, near 101 90 (omega arith) (omega arith)), ((refl, near 101 101 (omega arith) (omega arith)), tt))) in
+          ((refl, tt), ((refl, near (pos 101) (pos 90) (omega arith) (omega arith)), ((refl, near (pos 101) (pos 101) (omega arith) (omega arith)), tt))) in
           let z : _≡_ {A = ℕ} 2856 476 = sum-of _ _ (a .sums [] _ (_ ∷ _ ∷ []) [] (refl, inl refl, (stale-apart, (gap-apart 10, tt)))) in
           omega arith;
       -- eight stale ones

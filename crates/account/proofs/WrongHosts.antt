@@ -7,7 +7,7 @@ use Rattle.sequence.specs.declared.Expected.{Expected}
 use Rattle.sequence.specs.declared.SeqTracker.{SeqTracker}
 use Rattle.sequence.specs.declared.Expected.the-variants.{Nothing, Next}
 use Rattle.sequence.specs.Tracker.{after}
-use Rattle.model.specs.Answer.{Answer, refused, done, heard, took, slot, flag}
+use Rattle.model.specs.Answer.{Word, begun, ready, softStall, hardStall, sent, ignored, status, malformed, malformedLimit, closed, Answer, refused, done, heard, took, slot, flag}
 use Rattle.model.specs.Host.{Incoming, Call, Begin, Pass, Arrival, Take, Close, TakeMissing, TakeDiscontinuity, TakeStalled, Reply, Step, Host}
 use Rattle.model.specs.State.{State, refuse}
 use Rattle.model.specs.Refusals.{lentPackets, lentBuffer}
@@ -69,6 +69,50 @@ inventsOutages = telling (λ e. onEvent moreInRestarts)
 abbrev pub hushes : Host
 hushes = telling (λ e. onEvent (λ event m. heard event 0))
 
+-- InOrder and 0 missing for every arrival
+abbrev pub fixed : Host
+fixed = telling (λ e. onEvent (λ event m. heard InOrder 0))
+
+-- ---- Restart where no datagram came, or none that is valid I/Q
+
+abbrev pub atBegin : Word → Answer
+atBegin begun = heard Restart 7
+atBegin ready = done ready
+atBegin softStall = done softStall
+atBegin hardStall = done hardStall
+atBegin sent = done sent
+atBegin ignored = done ignored
+atBegin status = done status
+atBegin malformed = done malformed
+atBegin malformedLimit = done malformedLimit
+atBegin closed = done closed
+
+abbrev pub atMalformed : Word → Answer
+atMalformed malformed = heard Restart 7
+atMalformed begun = done begun
+atMalformed ready = done ready
+atMalformed softStall = done softStall
+atMalformed hardStall = done hardStall
+atMalformed sent = done sent
+atMalformed ignored = done ignored
+atMalformed status = done status
+atMalformed malformedLimit = done malformedLimit
+atMalformed closed = done closed
+
+abbrev pub onWord : (Word → Answer) → Answer → Answer
+onWord f (done word) = f word
+onWord f (heard event missing) = heard event missing
+onWord f (refused number) = refused number
+onWord f (took n) = took n
+onWord f (slot held) = slot held
+onWord f (flag stalled) = flag stalled
+
+abbrev pub shouts : Host
+shouts = telling (λ e. onWord atBegin)
+
+abbrev pub shoutsAtMalformed : Host
+shoutsAtMalformed = telling (λ e. onWord atMalformed)
+
 -- ---- Restart for every arrival where a number was expected
 
 abbrev pub restartLater : Expected → Answer → Answer
@@ -85,15 +129,15 @@ queuedAt at st = record { session = with-receiver (st .session) (with-queue-pos 
 
 -- the state after a Close, a Take or an Arrival, made by one of these
 abbrev pub leaving : (State → State) → (State → State) → (Incoming → Answer → State → State) → State → Call → Step State
-leaving closed taken came st (Close d) = record { reply = step st (Close d) .reply; state = closed (step st (Close d) .state) }
-leaving closed taken came st (Take now b) = record { reply = step st (Take now b) .reply; state = taken (step st (Take now b) .state) }
-leaving closed taken came st (Arrival i d) =
+leaving ended taken came st (Close d) = record { reply = step st (Close d) .reply; state = ended (step st (Close d) .state) }
+leaving ended taken came st (Take now b) = record { reply = step st (Take now b) .reply; state = taken (step st (Take now b) .state) }
+leaving ended taken came st (Arrival i d) =
     record { reply = step st (Arrival i d) .reply; state = came i (step st (Arrival i d) .reply .answer) (step st (Arrival i d) .state) }
-leaving closed taken came st (Begin now) = step st (Begin now)
-leaving closed taken came st (Pass now d) = step st (Pass now d)
-leaving closed taken came st TakeMissing = step st TakeMissing
-leaving closed taken came st TakeDiscontinuity = step st TakeDiscontinuity
-leaving closed taken came st TakeStalled = step st TakeStalled
+leaving ended taken came st (Begin now) = step st (Begin now)
+leaving ended taken came st (Pass now d) = step st (Pass now d)
+leaving ended taken came st TakeMissing = step st TakeMissing
+leaving ended taken came st TakeDiscontinuity = step st TakeDiscontinuity
+leaving ended taken came st TakeStalled = step st TakeStalled
 
 -- Close empties the queue
 abbrev pub drops : Host
@@ -155,6 +199,9 @@ pub record Refuted : Type 1 where
   pub invents : ¬ Meets invents
   pub inventsOutages : ¬ TellsAll inventsOutages
   pub hushes : ¬ Meets hushes
+  pub fixed : ¬ Meets fixed
+  pub shouts : ¬ Meets shouts
+  pub shoutsAtMalformed : ¬ Meets shoutsAtMalformed
   pub restarts : ¬ Meets restarts
   pub drops : ¬ Meets drops
   pub twice : ¬ Meets twice

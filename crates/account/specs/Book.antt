@@ -1,15 +1,16 @@
 -- The book of 01, Demand 3 over a list of calls. Besides the settings and the opening reading it is told, of each call, which it
 -- is and with what arguments, but not the session, and if it was refused. Definitions only.
-use Prim.Native.Nat.{ℕ, _+_, _-_, _*_}
+use Prim.Native.Nat.{ℕ, _+_, _*_}
 use mathlib.Core.Bool.{Bool, true, false, cond}
 use mathlib.Core.Option.{Option, some, none}
+use lib.IntN.{ℤ, pos, _+ℤ_, _-ℤ_}
 use Rattle.stream.specs.Size.{perDatagram}
 use Rattle.stream.specs.Elapsed.{jumpLimit, restartMissing}
 use Rattle.sequence.specs.Tracker.{past}
 use Rattle.model.specs.Rules.{begun, used, elapsed, outage}
 use Rattle.model.specs.Routing.{Routed, iq, status, ignored, malformed, routed}
 use Rattle.model.specs.Host.{Incoming, Call, Begin, Pass, Arrival, Take, Close, TakeMissing, TakeDiscontinuity, TakeStalled}
-use Rattle.account.specs.Whole.{fits, fitsBelow}
+use Rattle.account.specs.Whole.{countOf, ahead, fits, fitsBelow}
 use Rattle.model.specs.declared.receiver.Window.{Window}
 use Rattle.model.specs.declared.receiver.Window.the-variants.{Shut}
 use Rattle.model.specs.declared.settings.Settings.{Settings}
@@ -48,7 +49,7 @@ news s c false = newsOf s c
 
 -- e, once a number is expected; the stale run; when an arrival was last accepted, and when the last Take was; the park window
 pub record Book : Type 0 where
-  pub expected : Option ℕ
+  pub expected : Option ℤ
   pub run : ℕ
   pub acceptedAt : ℕ
   pub taken : ℕ
@@ -62,46 +63,46 @@ blank now = record { expected = none; run = 0; acceptedAt = now; taken = now; wi
 abbrev pub limitIn : Settings → Book → ℕ → ℕ
 limitIn s b now = jumpLimit (elapsed (s .«sample_rate_hz») (b .acceptedAt) (b .window) now) (s .«sample_rate_hz»)
 
-abbrev pub fitIn : Option ℕ → ℕ → ℕ → ℕ → Bool
+abbrev pub fitIn : Option ℤ → ℕ → ℕ → ℤ → Bool
 fitIn none limit run n = true
 fitIn (some e) limit run n = fits limit run e n
 
 -- the arrival of the number n at `now` fits; the first one does
-abbrev pub fit : Settings → Book → ℕ → ℕ → Bool
+abbrev pub fit : Settings → Book → ℕ → ℤ → Bool
 fit s b now n = fitIn (b .expected) (limitIn s b now) (b .run) n
 
-abbrev pub belowIn : Option ℕ → ℕ → ℕ → Bool
+abbrev pub belowIn : Option ℤ → ℕ → ℤ → Bool
 belowIn none run n = false
 belowIn (some e) run n = fitsBelow run e n
 
 -- it fits below e
-abbrev pub late : Book → ℕ → Bool
+abbrev pub late : Book → ℤ → Bool
 late b n = belowIn (b .expected) (b .run) n
 
 -- what it misses as a restart
-abbrev pub restartIn : Settings → Book → Incoming → ℕ → ℕ
+abbrev pub restartIn : Settings → Book → Incoming → ℤ → ℕ
 restartIn s b i n =
-    restartMissing (outage (s .«sample_rate_hz») (b .acceptedAt) (b .window) (i .now) (i .later) (past n) (i .waiting)) (s .«sample_rate_hz»)
+    restartMissing (outage (s .«sample_rate_hz») (b .acceptedAt) (b .window) (i .now) (i .later) (past (countOf n)) (i .waiting)) (s .«sample_rate_hz»)
 
-abbrev pub missingIn : Option ℕ → Bool → ℕ → ℕ → ℕ
+abbrev pub missingIn : Option ℤ → Bool → ℕ → ℤ → ℕ
 missingIn none fit restart n = 0
-missingIn (some e) true restart n = perDatagram * (n - e)
+missingIn (some e) true restart n = perDatagram * ahead (n -ℤ e)
 missingIn (some e) false restart n = restart
 
 -- what it misses
-abbrev pub missing : Settings → Book → Incoming → ℕ → ℕ
+abbrev pub missing : Settings → Book → Incoming → ℤ → ℕ
 missing s b i n = missingIn (b .expected) (fit s b (i .now) n) (restartIn s b i n) n
 
 -- a number that fits below e makes the stale run one longer, and that is all; after any other the run is 0, e is the number that
 -- follows it, the accepted time is its reading, and the window is used by it and what it misses
-abbrev pub booked : Settings → Book → Incoming → ℕ → Book
+abbrev pub booked : Settings → Book → Incoming → ℤ → Book
 booked s b i n =
     cond (late b n)
     (record { expected = b .expected; run = b .run + 1; acceptedAt = b .acceptedAt; taken = b .taken; window = b .window })
-    (record { expected = some (n + 1); run = 0; acceptedAt = i .now; taken = b .taken; window = used (b .window) (missing s b i n) })
+    (record { expected = some (n +ℤ pos 1); run = 0; acceptedAt = i .now; taken = b .taken; window = used (b .window) (missing s b i n) })
 
 -- a Begin may open or refill the window, a Take is noted with its reading, and an arrival is judged
-abbrev pub noted : Settings → Book → News → ℕ → Book
+abbrev pub noted : Settings → Book → News → ℤ → Book
 noted s b Quiet n = b
 noted s b (Began now) n =
     record { expected = b .expected; run = b .run; acceptedAt = b .acceptedAt; taken = b .taken; window = begun (s .«park_window») (b .taken) (b .window) now }

@@ -5,6 +5,7 @@ use mathlib.Core.Path.{_≡_}
 use mathlib.Core.List.{List, [], _∷_}
 use mathlib.Core.Option.{Option, some, none}
 use lib.Dec.{T}
+use lib.IntN.{ℤ}
 use Rattle.sequence.specs.declared.SeqEvent.{SeqEvent}
 use Rattle.sequence.specs.declared.SeqEvent.the-variants.{InOrder}
 use Rattle.model.specs.Settings.{accepts}
@@ -18,18 +19,18 @@ use Rattle.account.specs.Demand3.{Lies}
 use Rattle.model.specs.declared.settings.Settings.{Settings}
 
 -- the event of an arrival by the book; the first is in order
-abbrev pub verdictIn : Option ℕ → ℕ → ℕ → ℕ → SeqEvent
+abbrev pub verdictIn : Option ℤ → ℕ → ℕ → ℤ → SeqEvent
 verdictIn none limit run n = InOrder
 verdictIn (some e) limit run n = verdict limit run e n
 
-abbrev pub Exact : Settings → Book → News → ℕ → Tells → Type 0
+abbrev pub Exact : Settings → Book → News → ℤ → Tells → Type 0
 Exact s b Quiet n a = (a .event ≡ none) × (a .missing ≡ 0)
 Exact s b (Began now) n a = (a .event ≡ none) × (a .missing ≡ 0)
 Exact s b (Took now) n a = (a .event ≡ none) × (a .missing ≡ 0)
 Exact s b (Came i count) n a =
     (a .event ≡ some (verdictIn (b .expected) (limitIn s b (i .now)) (b .run) n)) × (a .missing ≡ missing s b i n)
 
-abbrev pub AllLines : Settings → (Book → News → ℕ → Tells → Type 0) → Book → List Line → Type 0
+abbrev pub AllLines : Settings → (Book → News → ℤ → Tells → Type 0) → Book → List Line → Type 0
 AllLines s P b [] = Unit {0}
 AllLines s P b (l ∷ ls) = P b (l .news) (l .number) (l .says) × AllLines s P (noted s b (l .news) (l .number)) ls
 

@@ -1,19 +1,21 @@
 -- A list of calls with what they got back, as the book reads it: its arrivals, each with the book as it stood before. Definitions only.
-use Prim.Native.Nat.{ℕ, _+_, _*_, max}
+use Prim.Native.Nat.{ℕ, _+_, _*_}
 use mathlib.Core.Bool.{Bool, cond}
 use mathlib.Core.List.{List, [], _∷_, _++_}
 use lib.ListN.{take}
+use lib.IntN.{ℤ}
 use Rattle.iq.specs.Iq as Iq
 use Rattle.model.specs.Answer.{Tells, tells}
 use Rattle.model.specs.Sample.{Sample, pairs}
 use Rattle.model.specs.Host.{Incoming, Call, Begin, Pass, Arrival, Take, Close, TakeMissing, TakeDiscontinuity, TakeStalled, Reply}
+use Rattle.account.specs.Whole.{higher}
 use Rattle.account.specs.Book.{News, Quiet, Began, Took, Came, news, Book, fit, late, noted}
 use Rattle.model.specs.declared.settings.Settings.{Settings}
 
 -- a call, with the whole number that the radio gave the datagram that it brings (any number, where it brings none)
 pub record Sent : Type 0 where
   pub call : Call
-  pub number : ℕ
+  pub number : ℤ
 
 abbrev pub callsOf : List Sent → List Call
 callsOf [] = []
@@ -33,7 +35,7 @@ gave TakeStalled r = []
 -- a call and what it got back, as the book reads them
 pub record Line : Type 0 where
   pub news : News
-  pub number : ℕ
+  pub number : ℤ
   pub says : Tells
   pub out : List Sample
 
@@ -56,10 +58,10 @@ pub record Entry : Type 0 where
   pub book : Book
   pub incoming : Incoming
   pub count : ℕ
-  pub number : ℕ
+  pub number : ℤ
   pub says : Tells
 
-abbrev pub entry : Book → News → ℕ → Tells → List Entry
+abbrev pub entry : Book → News → ℤ → Tells → List Entry
 entry b (Came i count) n a = record { book = b; incoming = i; count = count; number = n; says = a } ∷ []
 entry b Quiet n a = []
 entry b (Began now) n a = []
@@ -94,6 +96,6 @@ abbrev pub missingTold : List Entry → ℕ
 missingTold [] = 0
 missingTold (x ∷ xs) = x .says .missing + missingTold xs
 
-abbrev pub highest : ℕ → List Entry → ℕ
+abbrev pub highest : ℤ → List Entry → ℤ
 highest n [] = n
-highest n (x ∷ xs) = highest (max n (x .number)) xs
+highest n (x ∷ xs) = highest (higher n (x .number)) xs

@@ -5,4 +5,3 @@ pub mod Ledger
 pub mod Demand3
 pub mod Exact
 pub mod Numbering
-pub mod Integers

@@ -6,6 +6,7 @@ use mathlib.Core.List.{List, [], _∷_, _++_}
 use lib.ListN.{length, drop}
 use lib.Dec.{T}
 use lib.Ieee.{Float}
+use lib.IntN.{ℤ}
 use native.Mathlib.Omega.{arith}
 use Rattle.base.proofs.Picks.{pick-t, pick-f}
 use Rattle.model.specs.Host.{Call, Reply, trace, final}
@@ -43,13 +44,13 @@ final-any : (samples : List Float) (st : State) (cs : List Call) → final (sess
 final-any samples st [] = refl
 final-any samples st (c ∷ cs) = final-any samples ((step st c) .state) cs
 
-calls-of : (cs : List Call) (ns : List ℕ) → callsOf (numbered cs ns) ≡ cs
+calls-of : (cs : List Call) (ns : List ℤ) → callsOf (numbered cs ns) ≡ cs
 calls-of [] ns = refl
 calls-of (c ∷ cs) ns = ap (λ (l : List Call). c ∷ l) (calls-of cs (drop 1 ns))
 
 -- demand 3 of a run from a session just opened, in however many parts, for every numbering
 pub runs-account : (s : Settings) (opening : ℕ) (samples : List Float) (cs : List Call) (rs : List Reply) (st : State) → T (accepts s) → length samples ≡ 476
-    → Runs (openedWith samples s opening) cs rs st → (numbers : List ℕ) → Account s opening (numbered cs numbers) rs (waitingIn (st .session .receiver) (st .samples))
+    → Runs (openedWith samples s opening) cs rs st → (numbers : List ℤ) → Account s opening (numbered cs numbers) rs (waitingIn (st .session .receiver) (st .samples))
 runs-account s opening samples cs rs st ok size r numbers =
     let st₀ = openedWith samples s opening in
     let n = numbered cs numbers in

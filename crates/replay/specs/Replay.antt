@@ -4,6 +4,7 @@ use mathlib.Core.Path.{_≡_}
 use mathlib.Core.List.{List, [], _∷_}
 use lib.ListN.{length, getD, drop}
 use lib.Ieee.{Float}
+use lib.IntN.{ℤ, pos}
 use Rattle.base.specs.Pick.{pick}
 use Rattle.model.specs.Host.{Call, Reply}
 use Rattle.model.specs.Settings.{settingsAnswer, settingsTold, accepts}
@@ -45,9 +46,9 @@ abbrev pub repliesIn : List ℕ → List ℕ → List ℕ → List Float → Lis
 repliesIn calls answers packets places = repliesFrom calls (length calls / 8) 0 nothing answers packets places
 
 -- the calls, each with a whole number, the i-th of the list; 0 past its end
-abbrev pub numbered : List Call → List ℕ → List Sent
+abbrev pub numbered : List Call → List ℤ → List Sent
 numbered [] ns = []
-numbered (c ∷ cs) ns = record { call = c; number = getD ns 0 0 } ∷ numbered cs (drop 1 ns)
+numbered (c ∷ cs) ns = record { call = c; number = getD ns 0 (pos 0) } ∷ numbered cs (drop 1 ns)
 
 -- ---- from a session just opened
 
@@ -61,5 +62,5 @@ pub record Replays (s : Settings) (opening : ℕ) (answer : SettingsAnswer) (out
   pub opens : settingsAnswer answer ≡ settingsTold s
   pub leaves : record { outcome = outcome; answers = answers; packets = packets; places = places; state = st } ≡ replayed s opening samples l answers₀
   -- demand 3, for every numbering of the calls
-  pub account : outcome ≡ Ran → (numbers : List ℕ)
+  pub account : outcome ≡ Ran → (numbers : List ℤ)
       → Account s opening (numbered (decoded l) numbers) (repliesIn (l .calls) answers packets places) (waitingIn (st .session .receiver) (st .samples))
