@@ -3,7 +3,7 @@ use Prim.Native.Nat.{ℕ}
 use mathlib.Core.List.{List, [], _∷_}
 use lib.IntN.{pos}
 use Rattle.model.specs.Host.{Call, Begin, Arrival, Take}
-use Rattle.model.proofs.Lists.{ddc0, iqAt, room, silence}
+use Rattle.model.specs.Lists.{ddc0, iqAt, room, silence}
 use Rattle.account.specs.Ledger.{Sent}
 
 -- a call that brings no number

@@ -14,7 +14,7 @@ use Rattle.account.specs.Book.{Book}
 use Rattle.account.specs.Ledger.{gave}
 use Rattle.account.specs.Demand3.{Meets}
 use Rattle.account.specs.Exact.{Exact}
-use Rattle.model.proofs.Lists.{silence}
+use Rattle.model.specs.Lists.{silence}
 use Rattle.account.proofs.WrongHosts.{refusing}
 use Rattle.model.specs.declared.settings.Settings.{Settings}
 use Rattle.account.proofs.Simulate.{meets}

@@ -8,7 +8,7 @@ use mathlib.Core.Option.{some}
 use lib.IntN.{pos, negsuc}
 use lib.Ieee.{ofInt, mul, div, add, sub, round}
 use Rattle.base.specs.Pick.{pick}
-use Rattle.base.proofs.Cases.{Case, case, Hold}
+use Rattle.base.specs.Cases.{Case, case, Hold}
 use Rattle.double.specs.Whole.{natOf, rounded}
 use Rattle.double.specs.Seconds.{secondsOf}
 use Rattle.stream.specs.Elapsed.{plausible, jumpLimit, restartMissing, accountTime, coveredTime}
@@ -17,7 +17,7 @@ use Rattle.model.specs.Rules.{elapsed, capped, datagrams, backlog, uncovered, o
 use Rattle.model.specs.Host.{Incoming}
 use Rattle.model.specs.declared.receiver.Window.{Window}
 use Rattle.model.specs.declared.receiver.Window.the-variants.{Shut, Open}
-use Rattle.model.proofs.Lists.{usual, iqAt, iqWith}
+use Rattle.model.specs.Lists.{usual, iqAt, iqWith}
 use Rattle.model.proofs.Worked.{mixed}
 use Rattle.account.specs.Whole.{fits, fitsAbove, fitsBelow}
 use Rattle.account.specs.Book.{Book, missing}

@@ -42,7 +42,7 @@ use Rattle.account.specs.Ledger.{Sent, Line, handedOut, Entry, acceptedI
 use Rattle.account.specs.Demand3.{Agrees, Sums}
 use Rattle.account.proofs.WrongHosts.{Refuted}
 use Rattle.model.proofs.Pairs.{pairs-count, datagram-size, datagram-samples, none-past, handed-out}
-use Rattle.model.proofs.Lists.{usual, datagram, silence}
+use Rattle.model.specs.Lists.{usual, datagram, silence}
 use Rattle.account.proofs.Lists.{plain, arrive, noise, readAt}
 
 pub usual-accepted : T (accepts usual)

@@ -15,7 +15,7 @@ use Rattle.base.specs.Pick.{pick}
 use mathlib.Core.Bool.{Bool}
 use Rattle.model.specs.Session.{step, session}
 use Rattle.model.specs.Parts.{with-receiver, with-tracker, with-queue-pos}
-use Rattle.model.proofs.Lists.{silence}
+use Rattle.model.specs.Lists.{silence}
 use Rattle.account.specs.Demand3.{Meets}
 use Rattle.account.specs.Exact.{TellsAll}
 

@@ -1,23 +1,9 @@
--- Worked cases: what a definition gives beside the value that was worked out elsewhere. A list of them holds by computation; lists
--- that hold are joined to one that does, whatever their values are of.
+-- Lists of worked cases that hold are joined to one that does, whatever their values are of. Assumes nothing.
 use mathlib.Core.Path.{_≡_, refl, sym, ap, _∙_}
 use mathlib.Core.List.{List, [], _∷_, _++_, map}
-
-pub record Case (A : Type 0) : Type 0 where
-  pub given : A
-  pub worked : A
-
-abbrev pub case : {A : Type 0} → A → A → Case A
-case given worked = record { given = given; worked = worked }
-
-abbrev pub Hold : {A : Type 0} → List (Case A) → Type 0
-Hold {A} cases = map (λ (x : Case A). x .given) cases ≡ map (λ (x : Case A). x .worked) cases
+use Rattle.base.specs.Cases.{Case, case, Hold, seenBy}
 
 -- ---- the cases with their values seen through f
-
-abbrev pub seenBy : {A B : Type 0} → (A → B) → List (Case A) → List (Case B)
-seenBy f [] = []
-seenBy f (x ∷ xs) = case (f (x .given)) (f (x .worked)) ∷ seenBy f xs
 
 module _ {A B : Type 0} (f : A → B) where
   side : (p : Case A → A) (q : Case B → B) → ((x : Case A) → q (case (f (x .given)) (f (x .worked))) ≡ f (p x)) → (xs : List (Case A)) → map q (seenBy f xs) ≡ map f (map p xs)

@@ -2,5 +2,6 @@
 pub mod Tests
 pub mod Picks
 pub mod Searches
+pub mod Rows
 pub mod Told
 pub mod Cases

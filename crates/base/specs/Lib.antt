@@ -2,4 +2,6 @@
 pub mod Pick
 pub mod Told
 pub mod Search
+pub mod Rows
 pub mod Each
+pub mod Cases

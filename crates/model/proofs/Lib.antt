@@ -7,6 +7,5 @@ pub mod Traces
 pub mod Pairs
 pub mod Sends
 -- trials of the definitions
-pub mod Lists
 pub mod Edges
 pub mod Worked

@@ -9,22 +9,12 @@ use borrow.Author.Tests.{ltb-false, le-ltb, eqb-true, eq-eqb}
 use Rattle.base.specs.Pick.{pick}
 use Rattle.base.proofs.Picks.{pick-either}
 use Rattle.base.specs.Told.{Told, gives}
-use Rattle.tuning.specs.Centre.{wholeCentre, belowNyquist}
-use Rattle.tuning.specs.Rate.{isRate, khzOf}
-use Rattle.model.specs.Settings.{settingsTold, isGiven, accepts}
+use Rattle.tuning.specs.Rate.{khzOf}
+use Rattle.model.specs.Settings.{settingsTold, isGiven, accepts, Plain}
 use Rattle.model.specs.Command.{offsetOf, destinationOf}
 use Rattle.model.specs.declared.command.Stream.{Stream}
 use Rattle.model.specs.declared.command.Stream.the-variants.{General, RxSpecific, TxSpecific, HighPriority}
 use Rattle.model.specs.declared.settings.Settings.{Settings}
-
--- no row applies
-pub record Plain (s : Settings) : Type 0 where
-  pub receivers : s .«ddc_count» ≡ 1
-  pub centres : s .«center_count» ≡ 1
-  pub rate : isRate (s .«sample_rate_hz») ≡ true
-  pub whole : wholeCentre (s .«center_freq_hz») ≡ true
-  pub below : belowNyquist (s .«center_freq_hz») ≡ true
-  pub port : s .port ≤ 65524
 
 not-not : (b : Bool) → not b ≡ false → b ≡ true
 not-not true h = refl

@@ -22,9 +22,9 @@ use lib.ListN.{replicate}
 use Rattle.model.specs.State.{State, left, waits, quietSince}
 use Rattle.model.specs.Open.{newCommon}
 use Rattle.model.specs.Session.{step}
-use Rattle.model.proofs.Lists.{kHz48, mHz7, radio, usual, datagram, iqAt, iqWith, room, silence}
-use Rattle.base.proofs.Cases.{Case, case, Hold}
-use Rattle.model.proofs.Edges.{Given, number, answer, told, window, held, route}
+use Rattle.model.specs.Lists.{kHz48, mHz7, radio, usual, datagram, iqAt, iqWith, room, silence}
+use Rattle.base.specs.Cases.{Case, case, Hold}
+use Rattle.model.specs.Edges.{Given, number, answer, told, window, held, route}
 use Rattle.model.specs.declared.receiver.Anchor.the-variants.{At}
 use Rattle.model.specs.declared.receiver.Window.{Window}
 use Rattle.model.specs.declared.receiver.Window.the-variants.{Shut, Open}

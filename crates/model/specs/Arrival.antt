@@ -1,10 +1,9 @@
 -- Arrival: malformed, ignored, status or valid I/Q. Definitions only.
 use Prim.Native.Nat.{ℕ, _+_, min}
 use mathlib.Core.List.{List, [], _∷_}
-use lib.ListN.{length}
-use lib.Dec.{ltb, leb}
-use Rattle.stream.specs.Size.{maxBuffered}
+use lib.Dec.{leb}
 use Rattle.base.specs.Pick.{pick}
+use Rattle.base.specs.Rows.{unless}
 use Rattle.base.specs.Told.{Told, gives, refused}
 use Rattle.iq.specs.Iq.{samplesOf}
 use Rattle.sequence.specs.Tracker.{observed}
@@ -18,7 +17,8 @@ use Rattle.model.specs.Rules.{missingOf, isStale}
 use Rattle.model.specs.Routing.{Routed, routed}
 use Rattle.model.specs.Routing as Routing
 use Rattle.model.specs.Host.{Incoming, Step}
-use Rattle.model.specs.State.{State, waits, notReading, fell, atReading, replied, refuse, keeping}
+use Rattle.model.specs.State.{State, atReading, replied, refuse, keeping}
+use Rattle.model.specs.Table.{arrivalRows}
 use Rattle.model.specs.Sending.{stepped, wrote}
 use Rattle.model.specs.Pass.{shut}
 use Rattle.model.specs.Parts.{with-common, with-receiver, with-consecutive-malformed, with-health}
@@ -100,10 +100,4 @@ route st i = routed (st .session .common .settings .«radio_ip») (st .session .
 
 unfoldable pub arrival : State → Incoming → List ℕ → Step State
 arrival st i d =
-    pick (notReading (st .session)) (refuse 10 d [] st)
-    (pick (fell (st .session) (i .now)) (refuse 11 d [] st)
-    (pick (waits (st .session .receiver)) (refuse 12 d [] st)
-    (pick (ltb (i .later) (i .now)) (refuse 13 d [] st)
-    (pick (ltb maxBuffered (length (i .waiting))) (refuse 14 d [] st)
-    (pick (ltb (length d) 1444) (refuse 15 d [] st)
-    (arrived (atLater st (i .later)) i d (route st i)))))))
+    unless (arrivalRows (st .session) i d) (λ k. refuse k d [] st) (arrived (atLater st (i .later)) i d (route st i))

@@ -1,11 +1,12 @@
 -- Begin. Definitions only.
 use Prim.Native.Nat.{ℕ}
 use mathlib.Core.List.{[]}
-use Rattle.base.specs.Pick.{pick}
+use Rattle.base.specs.Rows.{unless}
 use Rattle.model.specs.Answer as Answer
 use Rattle.model.specs.Rules as Rules
 use Rattle.model.specs.Host.{Step}
-use Rattle.model.specs.State.{notIdle, fell, atReading, replied, refuse}
+use Rattle.model.specs.State.{atReading, replied, refuse}
+use Rattle.model.specs.Table.{beginRows}
 use Rattle.model.specs.Parts.{with-reading, with-parked, with-receiver}
 use Rattle.model.specs.declared.receiver.Anchor.{Anchor}
 use Rattle.model.specs.declared.receiver.Anchor.the-variants.{Unset, At}
@@ -26,7 +27,6 @@ begunBy size r now =
 
 unfoldable pub begin : Session → ℕ → Step Session
 begin s now =
-    pick (notIdle s) (refuse 10 [] [] s)
-    (pick (fell s now) (refuse 11 [] [] s)
+    unless (beginRows s now) (λ k. refuse k [] [] s)
     (replied (Answer.done Answer.begun) [] [] []
-    (with-receiver (atReading s now) (begunBy (s .common .settings .«park_window») (s .receiver) now))))
+    (with-receiver (atReading s now) (begunBy (s .common .settings .«park_window») (s .receiver) now)))

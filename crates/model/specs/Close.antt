@@ -2,13 +2,12 @@
 use Prim.Native.Nat.{ℕ}
 use mathlib.Core.Bool.{true}
 use mathlib.Core.List.{List, []}
-use lib.ListN.{length}
-use lib.Dec.{ltb}
-use Rattle.base.specs.Pick.{pick}
+use Rattle.base.specs.Rows.{unless}
 use Rattle.octets.specs.Written.{written}
 use Rattle.model.specs.Answer.{done, closed}
 use Rattle.model.specs.Host.{Step}
 use Rattle.model.specs.State.{replied, refuse}
+use Rattle.model.specs.Table.{closeRows}
 use Rattle.model.specs.Sending.{stopPackets}
 use Rattle.model.specs.Parts.{with-common, with-closed}
 use Rattle.model.specs.declared.session.Session.{Session}
@@ -21,6 +20,4 @@ stop s d =
 
 unfoldable pub close : Session → List ℕ → Step Session
 close s d =
-    pick (s .common .closed) (refuse 10 d [] s)
-    (pick (ltb (length d) 2888) (refuse 15 d [] s)
-    (stop s d))
+    unless (closeRows s d) (λ k. refuse k d [] s) (stop s d)

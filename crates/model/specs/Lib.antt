@@ -1,16 +1,19 @@
 -- What every call gives, in the order of reading.
 
--- the settings, the answers and the rules; a receiver's rules name no session
-pub mod Settings
+-- the answers and the rules; a receiver's rules name no session
 pub mod Answer
 pub mod Sample
 pub mod Command
 pub mod Parts
 pub mod Rules
 pub mod Routing
--- a host, and the calls of the session
+-- a host, and the state of a session
 pub mod Host
 pub mod State
+-- 01's table: what is refused, and by which number
+pub mod Table
+pub mod Settings
+-- the calls
 pub mod Sending
 pub mod Open
 pub mod Begin
@@ -26,3 +29,6 @@ pub mod Gives
 -- a refusal changes nothing, and what is written has room
 pub mod Refusals
 pub mod Room
+-- 01's edges, and the lists of calls that they are stated with
+pub mod Lists
+pub mod Edges

@@ -1,13 +1,14 @@
 -- Pass does the first that applies: Ready where samples wait, soft stall, hard stall, the packets that are due. Definitions only.
 use Prim.Native.Nat.{ℕ, _-_}
 use mathlib.Core.List.{List, []}
-use lib.ListN.{length}
-use lib.Dec.{ltb, leb}
+use lib.Dec.{leb}
 use Rattle.base.specs.Pick.{pick}
+use Rattle.base.specs.Rows.{unless}
 use Rattle.stall.specs.Episode.{isDue, reported}
 use Rattle.model.specs.Answer.{done, ready, softStall, hardStall, sent}
 use Rattle.model.specs.Host.{Step}
-use Rattle.model.specs.State.{waits, quietSince, notReading, fell, atReading, replied, refuse}
+use Rattle.model.specs.State.{waits, quietSince, atReading, replied, refuse}
+use Rattle.model.specs.Table.{passRows}
 use Rattle.model.specs.Sending.{duePackets, wrote}
 use Rattle.model.specs.Parts.{with-receiver, with-reading, with-stall, with-entered}
 use Rattle.model.specs.declared.receiver.Anchor.the-variants.{Unset}
@@ -37,7 +38,4 @@ passed s now d =
 
 unfoldable pub pass : Session → ℕ → List ℕ → Step Session
 pass s now d =
-    pick (notReading s) (refuse 10 d [] s)
-    (pick (fell s now) (refuse 11 d [] s)
-    (pick (ltb (length d) 4452) (refuse 15 d [] s)
-    (passed (atReading s now) now d)))
+    unless (passRows s now d) (λ k. refuse k d [] s) (passed (atReading s now) now d)

@@ -1,34 +1,22 @@
--- The settings: 01's rows 1 to 6, in order, and what the attenuation choice means. Definitions only.
-use mathlib.Core.Bool.{Bool, true, false, not}
+-- The settings: what is answered to them, and what the attenuation choice means. Definitions only.
+use mathlib.Core.Bool.{Bool, true, false}
+use Prim.Native.Nat.{_≤_}
+use mathlib.Core.Path.{_≡_}
 use mathlib.Core.List.{[], _∷_}
-use lib.Dec.{ltb, eqb}
-use Rattle.base.specs.Pick.{pick}
+use Rattle.base.specs.Rows.{unless}
 use Rattle.base.specs.Told.{Told, gives, refused}
 use Rattle.tuning.specs.Centre.{wholeCentre, belowNyquist}
 use Rattle.tuning.specs.Rate.{isRate, khzOf}
+use Rattle.model.specs.Table.{settingsRows}
 use Rattle.model.specs.declared.settings.Settings.{Settings}
 use Rattle.model.specs.declared.settings.AttenuationChoice.{AttenuationChoice}
 use Rattle.model.specs.declared.settings.AttenuationChoice.the-variants.{Off, On, Unsaid}
 use Rattle.model.specs.declared.settings.SettingsAnswer.{SettingsAnswer}
 use Rattle.model.specs.declared.settings.SettingsAnswer.the-variants.{Accepted, DdcCount, CenterCount, Rate, Center, CenterTooHigh, Port}
 
--- validate_protocol2
+-- validate_protocol2: by the first row that applies, else the rate in kHz
 unfoldable pub settingsTold : Settings → Told
-settingsTold s =
-    -- 1 the receiver count is not 1
-    pick (not (eqb (s .«ddc_count») 1)) (refused 1 [])
-    -- 2 the number of centres is not 1
-    (pick (not (eqb (s .«center_count») 1)) (refused 2 [])
-    -- 3 the rate is none of those in wire's Rate
-    (pick (not (isRate (s .«sample_rate_hz»))) (refused 3 [])
-    -- 4 the centre is a NaN or an infinity, is 0 or below, or has a fraction
-    (pick (not (wholeCentre (s .«center_freq_hz»))) (refused 4 [])
-    -- 5 the centre is 61,440,000 Hz or higher
-    (pick (not (belowNyquist (s .«center_freq_hz»))) (refused 5 [])
-    -- 6 the port is above 65,524
-    (pick (ltb 65524 (s .port)) (refused 6 [])
-    -- the rate in kHz
-    (gives (khzOf (s .«sample_rate_hz») ∷ [])))))))
+settingsTold s = unless (settingsRows s) (λ k. refused k []) (gives (khzOf (s .«sample_rate_hz») ∷ []))
 
 abbrev pub isGiven : Told → Bool
 isGiven (gives vs) = true
@@ -37,6 +25,15 @@ isGiven (refused k vs) = false
 -- no row applies
 unfoldable pub accepts : Settings → Bool
 accepts s = isGiven (settingsTold s)
+
+-- what is accepted, row by row
+pub record Plain (s : Settings) : Type 0 where
+  pub receivers : s .«ddc_count» ≡ 1
+  pub centres : s .«center_count» ≡ 1
+  pub rate : isRate (s .«sample_rate_hz») ≡ true
+  pub whole : wholeCentre (s .«center_freq_hz») ≡ true
+  pub below : belowNyquist (s .«center_freq_hz») ≡ true
+  pub port : s .port ≤ 65524
 
 abbrev pub settingsAnswer : SettingsAnswer → Told
 settingsAnswer (Accepted khz) = gives (khz ∷ [])

@@ -1,16 +1,15 @@
 -- Take: as many pairs of the queue as the buffer has room for; then the read is closed and delivering is on. Definitions only.
 use Prim.Native.Nat.{ℕ, _+_, _*_, _/_, min}
-use mathlib.Core.Bool.{not}
 use mathlib.Core.List.{List, []}
 use lib.ListN.{length, take, drop}
-use lib.Dec.{ltb}
 use lib.Ieee.{Float}
-use Rattle.base.specs.Pick.{pick}
+use Rattle.base.specs.Rows.{unless}
 use Rattle.octets.specs.Written.{written}
 use Rattle.stall.specs.Episode.{delivered}
 use Rattle.model.specs.Answer.{took}
 use Rattle.model.specs.Host.{Step}
-use Rattle.model.specs.State.{State, left, waits, notReading, fell, atReading, replied, refuse}
+use Rattle.model.specs.State.{State, left, atReading, replied, refuse}
+use Rattle.model.specs.Table.{takeRows}
 use Rattle.model.specs.Pass.{shut}
 use Rattle.model.specs.Parts.{with-queue-pos, with-read-returned, with-stall, with-receiver}
 use Rattle.model.specs.declared.receiver.Receiver.{Receiver}
@@ -32,8 +31,5 @@ handOut st now buffer n =
 
 unfoldable pub takeOut : State → ℕ → List Float → Step State
 takeOut st now buffer =
-    pick (notReading (st .session)) (refuse 10 [] buffer st)
-    (pick (fell (st .session) now) (refuse 11 [] buffer st)
-    (pick (ltb (length buffer) 2) (refuse 16 [] buffer st)
-    (pick (not (waits (st .session .receiver))) (refuse 17 [] buffer st)
-    (handOut st now buffer (min (length buffer / 2) (left (st .session .receiver)))))))
+    unless (takeRows (st .session) now buffer) (λ k. refuse k [] buffer st)
+    (handOut st now buffer (min (length buffer / 2) (left (st .session .receiver))))

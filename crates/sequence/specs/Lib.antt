@@ -1,2 +1,4 @@
 -- The definitions that the contracts of `sequence` cite, and those of the crates above it.
 pub mod Tracker
+-- 01's edges
+pub mod Edges

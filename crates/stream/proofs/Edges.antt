@@ -5,7 +5,7 @@ use mathlib.Core.List.{List, [], _∷_}
 use Prim.Native.Nat.{ℕ}
 use lib.IntN.{pos, negsuc}
 use lib.Ieee.{Float, fin, binary64, ofInt, div, add, sub, mul, lt}
-use Rattle.base.proofs.Cases.{Case, case, Hold}
+use Rattle.base.specs.Cases.{Case, case, Hold}
 use Rattle.double.specs.Whole.{natOf, rounded, ceilOf, roundOf}
 use Rattle.double.specs.Seconds.{secondsOf, nanosOf}
 use Rattle.stream.specs.Elapsed.{perDatagram64, slack, plausible, jumpLimit, restartMissing, belowHalf}

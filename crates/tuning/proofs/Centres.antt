@@ -3,13 +3,12 @@ use mathlib.Core.Path.{_≡_, refl, sym, ap, _∙_, subst}
 use Prim.Native.Nat.{ℕ, _*_, _/_, _%_, _<_, min}
 use native.Mathlib.Nat.{mul-one, zero-mul, div-lt-iff-lt-mul, zero-lt-suc}
 use native.Mathlib.Omega.{arith}
-use mathlib.Core.Bool.{true, false, _&&_}
+use mathlib.Core.Bool.{true, _&&_}
 use borrow.Author.Tests.{ltb-true, eqb-true}
 use lib.Dec.{T}
 use lib.Ieee.{Float, lt}
 use lib.Ieee.Fits.{and-l, and-r}
 use lib.Ieee.Bits.{is-true}
-use lib.Ieee.Exact.{HasValue}
 use lib.Ieee.Scale.{finite}
 use lib.Ieee.Positive.{num, den, den-pos, first-pos}
 use Rattle.double.specs.Whole.{most, floorAt, floorOf, isWhole}
@@ -17,14 +16,9 @@ use Rattle.double.proofs.Plain.{Plain, has-value, own-fraction}
 use Rattle.double.proofs.Wholes.{nat-plain, plain-above, whole-at}
 use Rattle.double.proofs.Rounded.{div-whole}
 use Rattle.double.proofs.Values.{lt-of-values}
-use Rattle.tuning.specs.Centre.{zero64, nyquist, wholeCentre, belowNyquist, acceptedCentre}
+use Rattle.tuning.specs.Centre.{zero64, nyquist, wholeCentre, belowNyquist, acceptedCentre, Accepted}
 use Rattle.tuning.specs.Phase.{phaseWord}
 use Rattle.tuning.proofs.Phases.{phase-of-value}
-
-pub record Accepted (x : Float) : Type 0 where
-  pub value : HasValue x false (floorOf x) 1
-  pub some : 0 < floorOf x
-  pub most : floorOf x < 61440000
 
 module _ (x : Float) (F : finite x ≡ true) (L : lt zero64 x ≡ true) (W : isWhole x ≡ true) (B : lt x nyquist ≡ true) where
   flat : Plain x

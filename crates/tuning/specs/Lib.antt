@@ -4,3 +4,5 @@ pub mod Alex
 pub mod Centre
 pub mod Phase
 pub mod Rate
+-- 01's edges
+pub mod Edges

@@ -1,4 +1,4 @@
--- Settings, datagrams and lists of calls to try rules and hosts on.
+-- Settings, datagrams and lists of calls that 01's edges, worked cases and trials are stated with. Definitions only.
 use Prim.Native.Nat.{ℕ, _+_}
 use mathlib.Core.Bool.{false}
 use mathlib.Core.Path.{_≡_, refl}
