@@ -12,21 +12,23 @@ use Rattle.sequence.specs.declared.SeqTracker.{SeqTracker}
 use Rattle.sequence.specs.declared.Expected.the-variants.{Nothing, Next}
 use Rattle.model.specs.Sample.{Sample, pairs}
 use Rattle.model.specs.Parts.{with-common, with-last-reading}
-use Rattle.model.specs.Host.{Call, Begin, Pass, Take, Close, TakeMissing, TakeDiscontinuity, TakeStalled, Step}
+use Rattle.model.specs.Host.{Call, Begin, Pass, Arrival, Take, Close, TakeMissing, TakeDiscontinuity, TakeStalled, Step}
 use Rattle.model.specs.State.{State, left, waitingIn, keeping}
-use Rattle.model.specs.Begin.{begunBy, begin}
-use Rattle.model.specs.Pass.{stallSoft, stallHard, passed, pass}
-use Rattle.model.specs.Take.{handed, handOut, takeOut}
-use Rattle.model.specs.Close.{stop, close}
+use Rattle.model.specs.Begin.{begunBy, started}
+use Rattle.model.specs.Pass.{stallSoft, stallHard, passed}
+use Rattle.model.specs.Take.{handed, handOut, handable}
+use Rattle.model.specs.Close.{stop}
 use Rattle.model.specs.Drain.{takeMissing, takeDiscontinuity, takeStalled}
 use Rattle.account.specs.Whole.{countOf}
 use Rattle.account.specs.Book.{Quiet, news, Book}
 use Rattle.model.specs.Answer.{tells}
 use Rattle.account.specs.Ledger.{gave}
 use Rattle.account.specs.Exact.{Exact}
+use Rattle.model.specs.declared.session.Common.{Common}
 use Rattle.model.specs.declared.session.Session.{Session}
 use Rattle.model.specs.declared.settings.Settings.{Settings}
 use Rattle.model.proofs.Pairs.{handed-out}
+use Rattle.model.proofs.Refusals.{refusal}
 use Rattle.model.proofs.Sends.{due-steady, stop-steady}
 use Rattle.account.proofs.Simulate
 
@@ -93,11 +95,24 @@ module _ (s : Settings) where
       abbrev HeldBy : Step Session → Type 0
       HeldBy x = Kept b st c n (keeping (st .samples) x)
 
-    pub begin-keeps : (now : ℕ) → HeldBy (Begin now) (begin (st .session) now)
-    unfolding begin begunBy waitingIn
+    -- a refused call is none
+    gave-nothing : (c : Call) (k : ℕ) → gave c ((refusal st c k) .reply) ≡ []
+    unfolding pairs
+    gave-nothing (Begin now) k = refl
+    gave-nothing (Pass now d) k = refl
+    gave-nothing (Arrival i d) k = refl
+    gave-nothing (Take now buffer) k = refl
+    gave-nothing (Close d) k = refl
+    gave-nothing TakeMissing k = refl
+    gave-nothing TakeDiscontinuity k = refl
+    gave-nothing TakeStalled k = refl
+
+    pub refused-keeps : (c : Call) (k : ℕ) → Held c (refusal st c k)
+    refused-keeps c k = still c (refusal st c k) refl refl refl (gave-nothing c k) (h .settings) refl refl refl refl refl refl
+
+    pub begin-keeps : (now : ℕ) → HeldBy (Begin now) (started (st .session) now)
+    unfolding begunBy waitingIn
     begin-keeps now =
-        pick-either _ _ _ (HeldBy (Begin now)) (λ _. still (Begin now) _ refl refl refl refl (h .settings) refl refl refl refl refl refl) λ _.
-        pick-either _ _ _ (HeldBy (Begin now)) (λ _. still (Begin now) _ refl refl refl refl (h .settings) refl refl refl refl refl refl) λ _.
         record {
           keep = λ l.
               record {
@@ -120,32 +135,17 @@ module _ (s : Settings) where
       unfolding stallHard
       hard-keeps = still (Pass now d) (keeping (st .samples) (stallHard stepped d)) refl refl refl refl (h .settings) refl refl refl refl refl refl
 
-      passed-keeps : HeldBy (Pass now d) (passed stepped now d)
+      pub pass-keeps : HeldBy (Pass now d) (passed stepped now d)
       unfolding passed
-      passed-keeps =
+      pass-keeps =
           pick-either _ _ _ (HeldBy (Pass now d)) (λ _. still (Pass now d) _ refl refl refl refl (h .settings) refl refl refl refl refl refl) λ _.
           pick-either _ _ _ (HeldBy (Pass now d)) (λ _. soft-keeps) λ _.
           pick-either _ _ _ (HeldBy (Pass now d)) (λ _. hard-keeps) λ _.
-          still (Pass now d) _ refl refl refl refl (due-steady now _ ∙ h .settings) refl refl refl refl refl refl
+          still (Pass now d) _ refl refl refl refl (ap (λ (c : Common). c .settings) (due-steady now _) ∙ h .settings) refl refl refl refl refl refl
 
-      pub pass-keeps : HeldBy (Pass now d) (pass (st .session) now d)
-      unfolding pass
-      pass-keeps =
-          pick-either _ _ _ (HeldBy (Pass now d)) (λ _. still (Pass now d) _ refl refl refl refl (h .settings) refl refl refl refl refl refl) λ _.
-          pick-either _ _ _ (HeldBy (Pass now d)) (λ _. still (Pass now d) _ refl refl refl refl (h .settings) refl refl refl refl refl refl) λ _.
-          pick-either _ _ _ (HeldBy (Pass now d)) (λ _. still (Pass now d) _ refl refl refl refl (h .settings) refl refl refl refl refl refl) λ _.
-          passed-keeps
-
-    stop-keeps : (d : List ℕ) → HeldBy (Close d) (stop (st .session) d)
+    pub close-keeps : (d : List ℕ) → HeldBy (Close d) (stop (st .session) d)
     unfolding stop
-    stop-keeps d = still (Close d) (keeping (st .samples) (stop (st .session) d)) refl refl refl refl (stop-steady (st .session .common) ∙ h .settings) refl refl refl refl refl refl
-
-    pub close-keeps : (d : List ℕ) → HeldBy (Close d) (close (st .session) d)
-    unfolding close
-    close-keeps d =
-        pick-either _ _ _ (HeldBy (Close d)) (λ _. still (Close d) _ refl refl refl refl (h .settings) refl refl refl refl refl refl) λ _.
-        pick-either _ _ _ (HeldBy (Close d)) (λ _. still (Close d) _ refl refl refl refl (h .settings) refl refl refl refl refl refl) λ _.
-        stop-keeps d
+    close-keeps d = still (Close d) (keeping (st .samples) (stop (st .session) d)) refl refl refl refl (ap (λ (c : Common). c .settings) (stop-steady (st .session .common)) ∙ h .settings) refl refl refl refl refl refl
 
     pub missing-keeps : HeldBy TakeMissing (takeMissing (st .session))
     unfolding takeMissing
@@ -159,13 +159,9 @@ module _ (s : Settings) where
     unfolding takeStalled
     stalled-keeps = still TakeStalled (keeping (st .samples) (takeStalled (st .session))) refl refl refl refl (h .settings) refl refl refl refl refl refl
 
-    pub take-keeps : (now : ℕ) (buffer : List Float) → Held (Take now buffer) (takeOut st now buffer)
-    unfolding takeOut handOut handed left waitingIn pairs
+    pub take-keeps : (now : ℕ) (buffer : List Float) → Held (Take now buffer) (handOut st now buffer (handable st buffer))
+    unfolding handOut handed left waitingIn pairs
     take-keeps now buffer =
-        pick-either _ _ _ (Held (Take now buffer)) (λ _. still (Take now buffer) _ refl refl refl refl (h .settings) refl refl refl refl refl refl) λ _.
-        pick-either _ _ _ (Held (Take now buffer)) (λ _. still (Take now buffer) _ refl refl refl refl (h .settings) refl refl refl refl refl refl) λ _.
-        pick-either _ _ _ (Held (Take now buffer)) (λ _. still (Take now buffer) _ refl refl refl refl (h .settings) refl refl refl refl refl refl) λ _.
-        pick-either _ _ _ (Held (Take now buffer)) (λ _. still (Take now buffer) _ refl refl refl refl (h .settings) refl refl refl refl refl refl) λ _.
         record {
           keep = λ l.
               record {

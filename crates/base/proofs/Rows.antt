@@ -20,6 +20,16 @@ module _ {A : Type 0} where
   unless-either P (x ∷ xs) refuse answer r a =
       pick-either (x .applies) (refuse (x .number)) (unless xs refuse answer) P (λ e. r (x .number)) (λ e. unless-either P xs refuse answer r (λ n. a (e, n)))
 
+  -- a function of what is given
+  pub unless-map : {B : Type 0} (g : A → B) (rs : List Row) (refuse : ℕ → A) (answer : A) → g (unless rs refuse answer) ≡ unless rs (λ k. g (refuse k)) (g answer)
+  unfolding pick
+  unless-map g [] refuse answer = refl
+  unless-map g (x ∷ xs) refuse answer = go (x .applies) (unless-map g xs refuse answer)
+    where
+      go : (b : Bool) → g (unless xs refuse answer) ≡ unless xs (λ k. g (refuse k)) (g answer) → g (pick b (refuse (x .number)) (unless xs refuse answer)) ≡ pick b (g (refuse (x .number))) (unless xs (λ k. g (refuse k)) (g answer))
+      go true h = refl
+      go false h = h
+
   -- where what is given says by which number it was refused, it says the first row's
   pub unless-refused : (by : A → Option ℕ) (rs : List Row) (refuse : ℕ → A) (answer : A) → ((k : ℕ) → by (refuse k) ≡ some k) → by answer ≡ none → by (unless rs refuse answer) ≡ firstRow rs
   unfolding pick

@@ -6,6 +6,8 @@ pub mod Room
 pub mod Traces
 pub mod Pairs
 pub mod Sends
+pub mod Leaves
+pub mod Opens
 -- trials of the definitions
 pub mod Edges
 pub mod Worked

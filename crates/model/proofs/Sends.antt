@@ -1,6 +1,6 @@
--- What is sent leaves the settings as they are. Assumes nothing.
+-- What is sent moves counts, clocks and the attenuator, and nothing else of what is common. Assumes nothing.
 use Prim.Native.Nat.{ℕ}
-use mathlib.Core.Path.{_≡_, refl, _∙_}
+use mathlib.Core.Path.{_≡_, refl, ap, _∙_}
 use mathlib.Core.Bool.{Bool, false}
 use Rattle.base.proofs.Picks.{pick-either}
 use Rattle.attenuator.specs.Controller as Controller
@@ -8,6 +8,7 @@ use Rattle.attenuator.specs.declared.AttenuationStep.{AttenuationStep}
 use Rattle.attenuator.specs.declared.AttenuationStep.the-variants.{NoStep, Step}
 use Rattle.attenuator.specs.declared.Stepped.{Stepped}
 use Rattle.model.specs.Sending.{Sending, idle, then, send, sendHigh, sendRxTx, sendGeneral, highIfDue, rxTxIfDue, generalIfDue, keepalive, applied, stepped, tick, duePackets, stopPackets}
+use Rattle.model.specs.Leaves.{sentFrom}
 use Rattle.model.specs.declared.command.Stream.{Stream}
 use Rattle.model.specs.declared.command.Stream.the-variants.{HighPriority}
 use Rattle.model.specs.declared.session.Attenuation.{Attenuation}
@@ -15,10 +16,10 @@ use Rattle.model.specs.declared.session.Attenuation.the-variants.{Off, O
 use Rattle.model.specs.declared.session.Common.{Common}
 
 abbrev Steady : Common → Sending → Type 0
-Steady c out = out .common .settings ≡ c .settings
+Steady c out = out .common ≡ sentFrom c (out .common)
 
 then-steady : (c : Common) (out : Sending) (f : Common → Sending) → Steady c out → ((d : Common) → Steady d (f d)) → Steady c (then out f)
-then-steady c out f h k = k (out .common) ∙ h
+then-steady c out f h k = k (out .common) ∙ ap (λ (x : Common). sentFrom x (f (out .common) .common)) h
 
 send-steady : (k : Stream) (run : Bool) (c : Common) → Steady c (send k run c)
 unfolding send

@@ -26,8 +26,9 @@ pub mod Drain
 pub mod Session
 -- how what the code of a call gives is held to these
 pub mod Gives
--- a refusal changes nothing, and what is written has room
+-- a refusal changes nothing, what each call leaves as it was, and what is written has room
 pub mod Refusals
+pub mod Leaves
 pub mod Room
 -- 01's edges, and the lists of calls that they are stated with
 pub mod Lists

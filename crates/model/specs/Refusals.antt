@@ -2,6 +2,7 @@
 use mathlib.Core.Path.{_≡_}
 use mathlib.Core.List.{List, []}
 use Prim.Native.Nat.{ℕ}
+use mathlib.Core.Bool.{Bool, true, false}
 use lib.Ieee.{Float}
 use lib.Dec.{T}
 use Rattle.model.specs.Host.{Call, Begin, Pass, Arrival, Take, Close, TakeMissing, TakeDiscontinuity, TakeStalled, Step}
@@ -27,6 +28,17 @@ lentBuffer (Close packets) = []
 lentBuffer TakeMissing = []
 lentBuffer TakeDiscontinuity = []
 lentBuffer TakeStalled = []
+
+-- the drains, which are never refused
+abbrev pub isDrain : Call → Bool
+isDrain (Begin now) = false
+isDrain (Pass now packets) = false
+isDrain (Arrival i packets) = false
+isDrain (Take now buffer) = false
+isDrain (Close packets) = false
+isDrain TakeMissing = true
+isDrain TakeDiscontinuity = true
+isDrain TakeStalled = true
 
 -- nothing is listed, and the state and every place of every lent buffer are as they were
 pub record Unchanged {S : Type 0} (at : S) (c : Call) (x : Step S) : Type 0 where

@@ -29,7 +29,10 @@ handOut st now buffer n =
     replied (took n) [] [] (written buffer 0 (front (s .receiver) (st .samples) n))
     (record { session = with-receiver (atReading s now) (handed (s .receiver) now n); samples = st .samples })
 
+-- as many pairs as the buffer has room for, or as wait
+abbrev pub handable : State → List Float → ℕ
+handable st buffer = min (length buffer / 2) (left (st .session .receiver))
+
 unfoldable pub takeOut : State → ℕ → List Float → Step State
 takeOut st now buffer =
-    unless (takeRows (st .session) now buffer) (λ k. refuse k [] buffer st)
-    (handOut st now buffer (min (length buffer / 2) (left (st .session .receiver))))
+    unless (takeRows (st .session) now buffer) (λ k. refuse k [] buffer st) (handOut st now buffer (handable st buffer))

@@ -1,0 +1,121 @@
+-- What each call leaves as it was, of every state; and what follows of a list of calls. Assumes nothing.
+use mathlib.Core.Path.{_≡_, refl, ap, sym, _∙_}
+use mathlib.Core.List.{List, [], _∷_}
+use mathlib.Core.Option.{some, none}
+use Prim.Native.Nat.{ℕ}
+use native.Mathlib.Omega.{arith}
+use lib.Ieee.{Float}
+use Rattle.base.proofs.Picks.{pick-either}
+use Rattle.base.specs.Rows.{unless}
+use Rattle.base.proofs.Rows.{unless-map}
+use Rattle.base.specs.Told.{Told, gives, refused}
+use Rattle.model.specs.Routing.{Routed, iq, status, ignored, malformed}
+use Rattle.model.specs.Host.{Incoming, Call, Begin, Pass, Arrival, Take, Close, TakeMissing, TakeDiscontinuity, TakeStalled, Step, final}
+use Rattle.model.specs.State.{State, atReading, keeping}
+use Rattle.model.specs.Table.{rowsOf, refusalOf}
+use Rattle.model.specs.Begin.{begunBy}
+use Rattle.model.specs.Pass.{stallSoft, stallHard, passed}
+use Rattle.model.specs.Hearing.{leftOut, acceptedBy}
+use Rattle.model.specs.Arrival.{hear, heardAs, heardIq, overload, heardStatus, oneMore, heardMalformed, arrived, atLater, route}
+use Rattle.model.specs.Take.{handed, handOut}
+use Rattle.model.specs.Sending.{send, stopPackets}
+use Rattle.model.specs.Close.{stop}
+use Rattle.model.specs.Drain.{takeMissing, takeDiscontinuity, takeStalled}
+use Rattle.model.specs.Session.{step, answered}
+use Rattle.model.specs.Leaves.{readingOf, readingAfter, byPass, byStatus, byArrival, control, changed, Leaves}
+use Rattle.model.specs.Parts.{with-last-reading, with-common}
+use Rattle.model.specs.declared.session.Attenuation.{Attenuation}
+use Rattle.model.specs.declared.session.Attenuation.the-variants.{Off, On}
+use Rattle.model.specs.declared.session.Common.{Common}
+use Rattle.model.specs.declared.session.Session.{Session}
+use Rattle.model.proofs.Refusals.{refusal, step-is, step-either}
+use Rattle.model.proofs.Sends.{due-steady, stepped-steady}
+
+-- ---- what is answered
+
+-- a session whose last reading was stored
+abbrev Passes : Session → ℕ → Step Session → Type 0
+Passes s now x = x .state ≡ byPass s now (x .state)
+
+passed-leaves : (s : Session) (now : ℕ) (d : List ℕ) → Passes s now (passed (atReading s now) now d)
+unfolding passed stallSoft stallHard
+passed-leaves s now d =
+    pick-either _ _ _ (Passes s now) (λ _. refl) λ _.
+    pick-either _ _ _ (Passes s now) (λ _. refl) λ _.
+    pick-either _ _ _ (Passes s now) (λ _. refl) λ _.
+    ap (with-common s) (due-steady now (with-last-reading (s .common) now))
+
+module _ (st : State) (i : Incoming) (d : List ℕ) where
+  abbrev Kept : Routed → Step State → Type 0
+  Kept p x = x .state ≡ byArrival st (i .later) p (x .state)
+
+  iq-leaves : (count : ℕ) → Kept (iq count) (heardIq (atLater st (i .later)) i d count)
+  unfolding heardIq heardAs hear leftOut acceptedBy
+  iq-leaves count = pick-either _ _ _ (Kept (iq count)) (λ _. refl) (λ _. refl)
+
+  abbrev HeardStatus : Step Session → Type 0
+  HeardStatus x = x .state ≡ byStatus (st .session) (i .later) (x .state)
+
+  overload-leaves : (a : Attenuation) (bits : Told) → HeardStatus (overload (atReading (st .session) (i .later)) i d a bits)
+  unfolding overload
+  overload-leaves Off bits = refl
+  overload-leaves (On controller) (gives []) = refl
+  overload-leaves (On controller) (gives (bits ∷ vs)) = ap (with-common (st .session)) (stepped-steady (i .later) _ (with-last-reading (st .session .common) (i .later)))
+  overload-leaves (On controller) (refused k vs) = refl
+
+  malformed-leaves : Kept malformed (keeping (st .samples) (heardMalformed (atReading (st .session) (i .later)) d))
+  unfolding heardMalformed oneMore
+  malformed-leaves = pick-either _ _ _ (λ (x : Step Session). Kept malformed (keeping (st .samples) x)) (λ _. refl) (λ _. refl)
+
+  arrived-leaves : (p : Routed) → Kept p (arrived (atLater st (i .later)) i d p)
+  unfolding arrived heardStatus
+  arrived-leaves (iq count) = iq-leaves count
+  arrived-leaves status = ap (control st) (overload-leaves _ _)
+  arrived-leaves ignored = refl
+  arrived-leaves malformed = malformed-leaves
+
+pub answered-leaves : (st : State) (c : Call) → Leaves st c ((answered st c) .state)
+unfolding begunBy handOut handed stop stopPackets send takeMissing takeDiscontinuity takeStalled
+answered-leaves st (Begin now) = refl
+answered-leaves st (Pass now d) = ap (control st) (passed-leaves (st .session) now d)
+answered-leaves st (Arrival i d) = arrived-leaves st i d (route st i)
+answered-leaves st (Take now buffer) = refl
+answered-leaves st (Close d) = refl
+answered-leaves st TakeMissing = refl
+answered-leaves st TakeDiscontinuity = refl
+answered-leaves st TakeStalled = refl
+
+-- ---- every call
+
+-- where it is not refused; a refusal changes nothing at all
+pub leaves : (st : State) (c : Call) → refusalOf ((step st c) .reply .answer) ≡ none → Leaves st c ((step st c) .state)
+leaves st c =
+    step-either (λ (x : Step State). refusalOf (x .reply .answer) ≡ none → Leaves st c (x .state)) st c
+    (λ k e. let z : _≡_ {A = ℕ} 0 1 = cc in absurd (omega arith))
+    (λ _ e. answered-leaves st c)
+
+route-reads : (st t : State) (later : ℕ) (p : Routed) → (byArrival st later p t) .session .common .«last_reading» ≡ later
+route-reads st t later (iq count) = refl
+route-reads st t later status = refl
+route-reads st t later ignored = refl
+route-reads st t later malformed = refl
+
+abbrev lastOf : State → ℕ
+lastOf st = st .session .common .«last_reading»
+
+changed-reads : (st : State) (c : Call) (t : State) → lastOf (changed st c t) ≡ readingOf (lastOf st) c
+changed-reads st (Begin now) t = refl
+changed-reads st (Pass now d) t = refl
+changed-reads st (Arrival i d) t = route-reads st t (i .later) (route st i)
+changed-reads st (Take now buffer) t = refl
+changed-reads st (Close d) t = refl
+changed-reads st TakeMissing t = refl
+changed-reads st TakeDiscontinuity t = refl
+changed-reads st TakeStalled t = refl
+
+-- the last accepted reading
+pub reading-stored : (st : State) (c : Call) → (step st c) .state .session .common .«last_reading» ≡ readingAfter st c
+reading-stored st c =
+    ap (λ (x : Step State). lastOf (x .state)) (step-is st c)
+    ∙ unless-map (λ (x : Step State). lastOf (x .state)) (rowsOf st c) (refusal st c) (answered st c)
+    ∙ ap (unless (rowsOf st c) (λ k. lastOf st)) (ap lastOf (answered-leaves st c) ∙ changed-reads st c _)

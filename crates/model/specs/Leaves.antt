@@ -1,0 +1,130 @@
+-- What each call leaves as it was: the state after a call that is not refused is the one before it with these parts changed, and no
+-- others. What is claimed of every state and call. Definitions only.
+use Prim.Native.Nat.{ℕ}
+use mathlib.Core.Bool.{true}
+use mathlib.Core.Path.{_≡_}
+use Rattle.base.specs.Rows.{unless}
+use Rattle.stall.specs.Episode.{delivered, taken}
+use Rattle.model.specs.Host.{Call, Begin, Pass, Arrival, Take, Close, TakeMissing, TakeDiscontinuity, TakeStalled}
+use Rattle.model.specs.State.{State, atReading}
+use Rattle.model.specs.Table.{rowsOf}
+use Rattle.model.specs.Routing.{Routed, iq, status, ignored, malformed}
+use Rattle.model.specs.Arrival.{route}
+use Rattle.model.specs.Pass.{shut}
+use Rattle.model.specs.Parts.{with-wait-entered, with-entered, with-missing, with-discontinuity, with-queue-pos, with-reading, with-parked, with-pending, with-read-returned, with-stall, with-seq, with-clocks, with-attenuator, with-health, with-consecutive-malformed, with-last-reading, with-closed, with-common, with-receiver}
+use Rattle.model.specs.declared.receiver.Anchor.the-variants.{Unset}
+use Rattle.model.specs.declared.receiver.Slot.the-variants.{Empty}
+use Rattle.model.specs.declared.receiver.Receiver.{Receiver}
+use Rattle.model.specs.declared.session.Common.{Common}
+use Rattle.model.specs.declared.session.Session.{Session}
+
+-- ---- the last accepted reading
+
+-- a call's own reading, for Arrival the later one; Close and the drains have none
+abbrev pub readingOf : ℕ → Call → ℕ
+readingOf last (Begin now) = now
+readingOf last (Pass now packets) = now
+readingOf last (Arrival i packets) = i .later
+readingOf last (Take now buffer) = now
+readingOf last (Close packets) = last
+readingOf last TakeMissing = last
+readingOf last TakeDiscontinuity = last
+readingOf last TakeStalled = last
+
+-- after a refusal it is the one before it
+abbrev pub readingAfter : State → Call → ℕ
+readingAfter st c =
+    unless (rowsOf st c) (λ k. st .session .common .«last_reading») (readingOf (st .session .common .«last_reading») c)
+
+-- ---- the other parts: `t` is what stands after the call
+
+-- packets move counts and clocks, and a step the attenuator
+abbrev pub sentFrom : Common → Common → Common
+sentFrom c t = with-attenuator (with-clocks (with-seq c (t .seq)) (t .clocks)) (t .attenuator)
+
+-- the read's own anchor
+abbrev pub enteredAs : Receiver → Receiver → Receiver
+enteredAs r t = with-reading r (with-entered (r .reading) (t .reading .entered))
+
+-- both anchors and the window
+abbrev pub byBegin : Session → ℕ → Session → Session
+byBegin s now t = with-receiver (atReading s now) (with-parked (with-reading (s .receiver) (t .receiver .reading)) (t .receiver .parked))
+
+-- packets; the read's own anchor, delivering and the stall flag
+abbrev pub byPass : Session → ℕ → Session → Session
+byPass s now t =
+    record {
+      common = sentFrom (with-last-reading (s .common) now) (t .common);
+      receiver = with-stall (enteredAs (s .receiver) (t .receiver)) (t .receiver .stall);
+    }
+
+-- valid I/Q: all of a receiver but its read's own anchor, the Take's time, delivering and the stall flag, and its wait anchor is
+-- empty; the counts; the malformed run is 0
+abbrev pub byIq : Session → ℕ → Session → Session
+byIq s later t =
+    let r = s .receiver in
+    record {
+      common = with-consecutive-malformed (with-health (with-last-reading (s .common) later) (t .common .health)) 0;
+      receiver = with-reading (with-stall (with-read-returned (t .receiver) (r .«read_returned»)) (r .stall)) (with-wait-entered (r .reading) Unset);
+    }
+
+-- a status packet: packets
+abbrev pub byStatus : Session → ℕ → Session → Session
+byStatus s later t = with-common s (sentFrom (with-last-reading (s .common) later) (t .common))
+
+-- a malformed datagram: the counts, the malformed run and the read's own anchor
+abbrev pub byMalformed : Session → ℕ → Session → Session
+byMalformed s later t =
+    record {
+      common = with-consecutive-malformed (with-health (with-last-reading (s .common) later) (t .common .health)) (t .common .«consecutive_malformed»);
+      receiver = enteredAs (s .receiver) (t .receiver);
+    }
+
+-- the queue's position, the read's own anchor, which is then empty, the Take's time and delivering
+abbrev pub byTake : Session → ℕ → Session → Session
+byTake s now t =
+    let r = s .receiver in
+    with-receiver (atReading s now)
+    (with-stall (with-read-returned (with-queue-pos (shut r) (t .receiver .«queue_pos»)) now) (delivered (r .stall)))
+
+-- the counts of the streams, and that it is closed
+abbrev pub byClose : Session → Session → Session
+byClose s t = with-common s (with-closed (with-seq (s .common) (t .common .seq)) true)
+
+-- the samples are as they were
+abbrev pub control : State → Session → State
+control st s = record { session = s; samples = st .samples }
+
+-- valid I/Q brings samples; one that is ignored changes the reading alone
+abbrev pub byArrival : State → ℕ → Routed → State → State
+byArrival st later (iq count) t = record { session = byIq (st .session) later (t .session); samples = t .samples }
+byArrival st later status t = control st (byStatus (st .session) later (t .session))
+byArrival st later ignored t = control st (atReading (st .session) later)
+byArrival st later malformed t = control st (byMalformed (st .session) later (t .session))
+
+abbrev pub changed : State → Call → State → State
+changed st (Begin now) t = control st (byBegin (st .session) now (t .session))
+changed st (Pass now packets) t = control st (byPass (st .session) now (t .session))
+changed st (Arrival i packets) t = byArrival st (i .later) (route st i) t
+changed st (Take now buffer) t = control st (byTake (st .session) now (t .session))
+changed st (Close packets) t = control st (byClose (st .session) (t .session))
+changed st TakeMissing t =
+    let r = st .session .receiver in
+    control st (with-receiver (st .session) (with-pending r (with-missing (r .pending) Empty)))
+changed st TakeDiscontinuity t =
+    let r = st .session .receiver in
+    control st (with-receiver (st .session) (with-pending r (with-discontinuity (r .pending) Empty)))
+changed st TakeStalled t =
+    let r = st .session .receiver in
+    control st (with-receiver (st .session) (with-stall r (taken (r .stall) .episode)))
+
+-- nothing but that changed
+abbrev pub Leaves : State → Call → State → Type 0
+Leaves st c t = t ≡ changed st c t
+
+-- ---- over a list of calls
+
+-- what Open made of the settings stays
+pub record Fixed (st t : State) : Type 0 where
+  pub settings : t .session .common .settings ≡ st .session .common .settings
+  pub tuning : t .session .common .tuning ≡ st .session .common .tuning
