@@ -26,15 +26,19 @@ use Rattle.model.specs.Rules.{begun, refilled, used, elapsed, capped, missingOf
 use Rattle.model.specs.Routing.{byOffset, routed}
 use Rattle.model.specs.Sample.{Sample, pairs}
 use Rattle.model.specs.declared.settings.Settings.{Settings}
-use Rattle.model.specs.State.{left, waits, waitingIn}
-use Rattle.model.specs.Open.{newCommon, newReceiver, newSession, opened}
+use Rattle.model.specs.State.{left, waits, waitingIn, quietSince}
+use Rattle.model.specs.Open.{attenuationAt, newCommon, newReceiver, newSession, opened}
 use Rattle.model.specs.Begin.{orAt, begunBy, begin}
 use Rattle.model.specs.Hearing.{eventOf, restartOf, leftOut}
 use Rattle.model.specs.Arrival.{oneMore, heardMalformed, hear, heardAs, heardIq, arrived, arrival}
 use Rattle.model.specs.Hearing as Hearing
 use Rattle.model.specs.Take.{handed, handOut, takeOut}
 use Rattle.model.specs.Close.{stop, close}
-use Rattle.model.specs.Host.{Begin, Close}
+use Rattle.model.specs.Answer.{softStall, sent, done}
+use Rattle.model.specs.Sending.{send, sendHigh, highIfDue, rxTxIfDue, generalIfDue, keepalive, packetOf, tick, duePackets}
+use Rattle.model.specs.Pass.{passed, pass}
+use Rattle.stall.specs.Episode.{isDue}
+use Rattle.model.specs.Host.{Begin, Pass, Close}
 use Rattle.model.specs.Session.{step}
 use lib.IntN.{ℤ, pos, natAbs, _+ℤ_, _-ℤ_, _*ℤ_}
 use Rattle.account.specs.Whole.{ahead, behind, Near, fitsAbove, fitsBelow, fits}
@@ -98,6 +102,7 @@ unfolding pick accepts settingsTold isRate rateAt first eq ofInt wholeCentre bel
     begin begunBy orAt begun refilled arrival arrived routed byOffset headerTold rows heardIq heardAs hear eventOf capped observed meant less after zeroRestarts
     elapsed jumpLimit plausible natOf secondsOf add mul div waits left Hearing.acceptedBy used missingOf takeOut handOut handed fits fitsAbove fitsBelow
     restartMissing rounded sub outage restartOf waitingIn close stop leftOut heardMalformed oneMore
+    pass passed isDue quietSince duePackets keepalive highIfDue sendHigh send packetOf rxTxIfDue generalIfDue tick attenuationAt
 refuted =
     record {
       invents = λ m.
@@ -123,6 +128,23 @@ refuted =
       shoutsAtMalformed = λ m.
           let a = m usual 0 (plain (Begin 0) ∷ noise 0 ∷ []) usual-accepted tt in
           told-apart Restart (a .others .1 .0 .0);
+      -- at 100 ms the high priority packet is due, and no other
+      idles = λ m.
+          let a = m usual 0 (Begin 0 ∷ Pass 100000000 (replicate 4452 0) ∷ []) usual-accepted in
+          let e : _≡_ {A = List ℕ} [] (3 ∷ []) = a .1 .0 .lists in
+          let z : _≡_ {A = ℕ} 0 1 = ap length e in
+          omega arith;
+      floods = λ m.
+          let a = m usual 0 (Begin 0 ∷ Pass 100000000 (replicate 4452 0) ∷ []) usual-accepted in
+          let e : _≡_ {A = List ℕ} (3 ∷ 1 ∷ 2 ∷ 0 ∷ []) (3 ∷ []) = a .1 .0 .lists in
+          let z : _≡_ {A = ℕ} 4 1 = ap length e in
+          omega arith;
+      -- nothing was ever delivered
+      stalls = λ m.
+          let a = m usual 0 (Begin 0 ∷ Pass 0 (replicate 4452 0) ∷ []) usual-accepted in
+          let e : done softStall ≡ done sent = a .1 .0 .right refl in
+          let z : _≡_ {A = ℕ} 0 1 = cc in
+          omega arith;
       -- the second fits
       restarts = λ m.
           let a = m usual 0 (readAt 0 5 ++ readAt 0 6) usual-accepted ((refl, tt), ((refl, near (pos 6) (pos 6) (omega arith) (omega arith)), tt)) in

@@ -1,4 +1,4 @@
--- Hosts that are wrong, each the session but for one thing, and what is claimed of them: trials of demand 3's statement.
+-- Hosts that are wrong, each the session but for one thing, and what is claimed of them: trials of demand 3's statement, and of Timely.
 use Prim.Native.Nat.{ℕ, _+_, min}
 use Rattle.octets.specs.Number.{beAt}
 use Rattle.sequence.specs.declared.SeqEvent.{SeqEvent}
@@ -13,9 +13,11 @@ use Rattle.model.specs.State.{State, refuse}
 use Rattle.model.specs.Refusals.{lentPackets, lentBuffer}
 use Rattle.base.specs.Pick.{pick}
 use mathlib.Core.Bool.{Bool}
+use mathlib.Core.List.{List, [], _∷_}
 use Rattle.model.specs.Session.{step, session}
 use Rattle.model.specs.Parts.{with-receiver, with-tracker, with-queue-pos}
 use Rattle.model.specs.Lists.{silence}
+use Rattle.model.specs.Timely.{Timely}
 use Rattle.account.specs.Demand3.{Meets}
 use Rattle.account.specs.Exact.{TellsAll}
 
@@ -113,6 +115,50 @@ shouts = telling (λ e. onWord atBegin)
 abbrev pub shoutsAtMalformed : Host
 shoutsAtMalformed = telling (λ e. onWord atMalformed)
 
+-- ---- what a Pass lists and tells
+
+abbrev pub listing : (List ℕ → List ℕ) → Reply → Reply
+listing f r = record { answer = r .answer; streams = f (r .streams); packets = r .packets; buffer = r .buffer }
+
+-- the session, with another reply to each Pass
+abbrev pub passing : (Reply → Reply) → State → Call → Step State
+passing f st (Pass now d) = record { reply = f (step st (Pass now d) .reply); state = step st (Pass now d) .state }
+passing f st (Begin now) = step st (Begin now)
+passing f st (Arrival i d) = step st (Arrival i d)
+passing f st (Take now b) = step st (Take now b)
+passing f st (Close d) = step st (Close d)
+passing f st TakeMissing = step st TakeMissing
+passing f st TakeDiscontinuity = step st TakeDiscontinuity
+passing f st TakeStalled = step st TakeStalled
+
+-- an idle Pass
+abbrev pub idles : Host
+idles = with (passing (listing (λ l. [])))
+
+-- all keepalives in one Pass, once one of them is due
+abbrev pub allIfAny : List ℕ → List ℕ
+allIfAny [] = []
+allIfAny (k ∷ l) = 3 ∷ 1 ∷ 2 ∷ 0 ∷ []
+
+abbrev pub floods : Host
+floods = with (passing (listing allIfAny))
+
+-- a stall is told where packets would be sent, on the first Pass too
+abbrev pub atPackets : Word → Answer
+atPackets sent = done softStall
+atPackets begun = done begun
+atPackets ready = done ready
+atPackets softStall = done softStall
+atPackets hardStall = done hardStall
+atPackets ignored = done ignored
+atPackets status = done status
+atPackets malformed = done malformed
+atPackets malformedLimit = done malformedLimit
+atPackets closed = done closed
+
+abbrev pub stalls : Host
+stalls = telling (λ e. onWord atPackets)
+
 -- ---- Restart for every arrival where a number was expected
 
 abbrev pub restartLater : Expected → Answer → Answer
@@ -202,6 +248,9 @@ pub record Refuted : Type 1 where
   pub fixed : ¬ Meets fixed
   pub shouts : ¬ Meets shouts
   pub shoutsAtMalformed : ¬ Meets shoutsAtMalformed
+  pub idles : ¬ Timely idles
+  pub floods : ¬ Timely floods
+  pub stalls : ¬ Timely stalls
   pub restarts : ¬ Meets restarts
   pub drops : ¬ Meets drops
   pub twice : ¬ Meets twice

@@ -18,3 +18,8 @@ unfolding lossTotal
 loss-rises c n =
     let d = c .«dropped_packets» in
     same-rest (238 * ((d + n) % 2 ^ 64)) (238 * d % 2 ^ 64 + 238 * n) (238 * ((d + n) / 2 ^ 64)) (238 * d / 2 ^ 64) (omega arith)
+
+-- where the dropped count is D modulo 2^64, it is that of D
+pub loss-of : (c : InputHealthCounters) (D : ℕ) → c .«dropped_packets» ≡ D % 2 ^ 64 → lossTotal c ≡ 238 * D % 2 ^ 64
+unfolding lossTotal
+loss-of c D e = same-rest (238 * c .«dropped_packets») (238 * D) (238 * (D / 2 ^ 64)) 0 (omega arith)

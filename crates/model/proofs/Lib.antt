@@ -8,6 +8,11 @@ pub mod Pairs
 pub mod Sends
 pub mod Leaves
 pub mod Opens
+pub mod Counters
+pub mod Slots
+pub mod Counts
+pub mod Due
+pub mod Timely
 -- trials of the definitions
 pub mod Edges
 pub mod Worked

@@ -112,7 +112,7 @@ fixed-changed st TakeMissing t = record { settings = refl; tuning = refl }
 fixed-changed st TakeDiscontinuity t = record { settings = refl; tuning = refl }
 fixed-changed st TakeStalled t = record { settings = refl; tuning = refl }
 
-fixed-step : (st : State) (c : Call) → Fixed st ((step st c) .state)
+pub fixed-step : (st : State) (c : Call) → Fixed st ((step st c) .state)
 fixed-step st c =
     step-either (λ (x : Step State). Fixed st (x .state)) st c (λ k. record { settings = refl; tuning = refl })
     (λ _. subst (Fixed st) (sym (answered-leaves st c)) (fixed-changed st c _))

@@ -29,6 +29,8 @@ pub mod Gives
 -- a refusal changes nothing, what each call leaves as it was, and what is written has room
 pub mod Refusals
 pub mod Leaves
+pub mod Counted
+pub mod Timely
 pub mod Room
 -- 01's edges, and the lists of calls that they are stated with
 pub mod Lists
