@@ -110,8 +110,8 @@ module _ (now : ℕ) where
   unfolding keepalive
   keepalive-sends c =
       let all =
-          then-sends c (highIfDue now c) (λ (d : Common). then (rxTxIfDue now d) (generalIfDue now)) _ _ (λ k. rxTxStreams k ++ generalStreams (afterRxTx k)) (λ k. afterGeneral (afterRxTx k)) (high-sends c)
-          (λ d. then-sends d (rxTxIfDue now d) (generalIfDue now) _ _ generalStreams afterGeneral (rx-tx-sends d) general-sends)
+      then-sends c (highIfDue now c) (λ (d : Common). then (rxTxIfDue now d) (generalIfDue now)) _ _ (λ k. rxTxStreams k ++ generalStreams (afterRxTx k)) (λ k. afterGeneral (afterRxTx k)) (high-sends c)
+      (λ d. then-sends d (rxTxIfDue now d) (generalIfDue now) _ _ generalStreams afterGeneral (rx-tx-sends d) general-sends)
       in
       record {
         streams = all .streams ∙ keepalive-streams (c .clocks);
@@ -162,5 +162,6 @@ module _ (now : ℕ) where
     where
       joined : (a b x y : List ℕ) → a ≡ b → x ≡ y → a ++ x ≡ b ++ y
       joined a b x y p q = cc
+
       both : (k l : Clocks) (x y : Attenuation) → k ≡ l → x ≡ y → stepClocks k (ticking x now) now ≡ stepClocks l (ticking y now) now
       both k l x y p q = rw (p, q) refl

@@ -16,7 +16,7 @@ use Rattle.model.specs.Table.{rowsOf, refusalOf}
 use Rattle.model.specs.Begin.{begunBy}
 use Rattle.model.specs.Pass.{stallSoft, stallHard, passed}
 use Rattle.model.specs.Hearing.{leftOut, acceptedBy}
-use Rattle.model.specs.Arrival.{hear, heardAs, heardIq, overload, heardStatus, oneMore, heardMalformed, arrived, atLater, route}
+use Rattle.model.specs.Arrival.{hear, heardAs, heardIq, overload, heardStatus, oneMore, discarded, givenUp, heardMalformed, arrived, atLater, route}
 use Rattle.model.specs.Take.{handed, handOut}
 use Rattle.model.specs.Sending.{send, stopPackets}
 use Rattle.model.specs.Close.{stop}
@@ -63,9 +63,23 @@ module _ (st : State) (i : Incoming) (d : List ℕ) where
   overload-leaves (On controller) (gives (bits ∷ vs)) = ap (with-common (st .session)) (stepped-steady (i .later) _ (with-last-reading (st .session .common) (i .later)))
   overload-leaves (On controller) (refused k vs) = refl
 
-  malformed-leaves : Kept malformed (keeping (st .samples) (heardMalformed (atReading (st .session) (i .later)) d))
-  unfolding heardMalformed oneMore
-  malformed-leaves = pick-either _ _ _ (λ (x : Step Session). Kept malformed (keeping (st .samples) x)) (λ _. refl) (λ _. refl)
+  abbrev Broken : Step Session → Type 0
+  Broken x = Kept malformed (keeping (st .samples) x)
+
+  abbrev after : Session
+  after = atReading (st .session) (i .later)
+
+  given-up-leaves : Broken (givenUp after d)
+  unfolding oneMore
+  given-up-leaves = refl
+
+  discarded-leaves : Broken (discarded after d)
+  unfolding oneMore
+  discarded-leaves = refl
+
+  malformed-leaves : Broken (heardMalformed after d)
+  unfolding heardMalformed
+  malformed-leaves = pick-either _ (givenUp after d) (discarded after d) Broken (λ _. given-up-leaves) (λ _. discarded-leaves)
 
   arrived-leaves : (p : Routed) → Kept p (arrived (atLater st (i .later)) i d p)
   unfolding arrived heardStatus

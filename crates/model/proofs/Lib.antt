@@ -16,3 +16,4 @@ pub mod Timely
 -- trials of the definitions
 pub mod Edges
 pub mod Worked
+pub mod WorkedStates

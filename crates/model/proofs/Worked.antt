@@ -3,23 +3,21 @@
 use Prim.Native.Nat.{ℕ, _+_}
 use mathlib.Core.Bool.{false}
 use mathlib.Core.List.{List, [], _∷_}
-use lib.Ieee.{Float, nan, inf, lt, eq, ofInt, mul, div, add, sub, round}
+use lib.Ieee.{Float, nan, inf, fin, lt, eq, ofInt, mul, div, add, sub, round}
+use lib.IntN.{pos}
 use Rattle.double.specs.Whole.{most, natOf, rounded, isWhole}
 use Rattle.stream.specs.Elapsed.{jumpLimit, restartMissing, accountTime, coveredTime, plausible}
 use Rattle.base.specs.Told.{Told, gives, refused}
-use Rattle.stall.specs.Episode.{unarmed, delivered, isDue}
+use Rattle.stall.specs.Episode.{unarmed}
 use Rattle.sequence.specs.declared.SeqEvent.the-variants.{Gap, Restart}
 use Rattle.model.specs.Settings.{settingsTold}
 use Rattle.model.specs.Answer.{Answer, heard}
 use Rattle.model.specs.Rules.{begun, used, elapsed, backlog, outage, added, refilled, capped, datagrams, uncovered, missingOf}
 use Rattle.model.specs.Routing.{Routed, iq, status, ignored, malformed, routed, byOffset}
-use Rattle.model.specs.Host.{Incoming, Call, Pass, Arrival, Close}
-use Rattle.model.specs.Parts.{with-receiver, with-tracker, with-queue-pos, with-stall}
-use Rattle.model.specs.Pass.{pass, passed, stallSoft}
-use Rattle.model.specs.Close.{close, stop}
-use Rattle.model.specs.declared.receiver.Receiver.{Receiver}
+use Rattle.model.specs.Host.{Incoming, Arrival}
+use Rattle.model.specs.Pass.{passed}
 use lib.ListN.{replicate}
-use Rattle.model.specs.State.{State, left, waits, quietSince}
+use Rattle.model.specs.State.{State, left, waits}
 use Rattle.model.specs.Open.{newCommon}
 use Rattle.model.specs.Session.{step}
 use Rattle.model.specs.Lists.{kHz48, mHz7, radio, usual, datagram, iqAt, iqWith, room, silence}
@@ -42,12 +40,12 @@ use Rattle.sequence.specs.Tracker.{past}
 use Rattle.sequence.specs.Tracker as Sequence
 use Rattle.sequence.specs.declared.Expected.the-variants.{Next}
 use Rattle.model.specs.Hearing.{eventOf, restartOf, leftOut, acceptedBy}
-use Rattle.model.specs.Arrival.{hear, heardAs, heardIq, oneMore, heardMalformed, arrived, arrival}
+use Rattle.model.specs.Arrival.{hear, heardAs, heardIq, arrived, arrival}
 
-abbrev num : ℕ → ℕ → Case Given
+abbrev pub num : ℕ → ℕ → Case Given
 num worked is = case (number worked) (number is)
 
-abbrev win : Window → Window → Case Given
+abbrev pub win : Window → Window → Case Given
 win worked is = case (window worked) (window is)
 
 -- ---- jump limit, elapsed time, account time
@@ -107,7 +105,19 @@ restartCases =
     ∷ num (backlog 8600 (past 0) (9000 ∷ 9001 ∷ [])) 2
     ∷ num (backlog 8600 (past 0) (8601 ∷ [])) 8601
     ∷ num (backlog 8600 (past 0) (8602 ∷ [])) 1
+    -- expecting 100: seven stale ones, and the eighth is a restart
+    ∷ num (backlog 8600 (past 99) (replicate 7 99)) 0
+    ∷ num (backlog 8600 (past 99) (replicate 8 99)) 1
+    ∷ num (backlog 8600 (past 99) (replicate 9 99)) 1
+    -- six stale ones came before
+    ∷ num (backlog 8600 (record { expected = Next 100; «stale_run» = 6 }) (99 ∷ [])) 0
+    ∷ num (backlog 8600 (record { expected = Next 100; «stale_run» = 6 }) (99 ∷ 99 ∷ [])) 1
+    -- over the wrap: 0 is expected
+    ∷ num (backlog 8600 (past 4294967295) (0 ∷ 1 ∷ [])) 2
     ∷ num (coveredTime 7 kHz48) 34708333
+    -- the walk's limit is that of the bound, 8600 at 2 s: a gap of that covers all of it, of one more one datagram
+    ∷ num (uncovered kHz48 2000000000 (past 99) (8700 ∷ [])) 0
+    ∷ num (uncovered kHz48 2000000000 (past 99) (8701 ∷ [])) 1995041667
     -- out of a window the later reading and what waits make no difference
     ∷ num (outage kHz48 1000000000 Shut 3000000000 9000000000 (past 0) (1 ∷ 2 ∷ [])) 2000000000
     -- in one: 2 s at the later reading, less what the seven cover
@@ -138,6 +148,13 @@ routeCases =
     ∷ routes (V4 radio 1024) (datagram 9) ignored
     ∷ routes (V4 radio 1025) (datagram 9) status
     ∷ routes (V4 radio 1026) (datagram 9) ignored
+    ∷ routes (V4 radio 1027) (datagram 9) ignored
+    ∷ routes (V4 radio 1028) (datagram 9) ignored
+    ∷ routes (V4 radio 1029) (datagram 9) ignored
+    ∷ routes (V4 radio 1030) (datagram 9) ignored
+    ∷ routes (V4 radio 1031) (datagram 9) ignored
+    ∷ routes (V4 radio 1032) (datagram 9) ignored
+    ∷ routes (V4 radio 1033) (datagram 9) ignored
     ∷ routes (V4 radio 1034) (datagram 9) ignored
     ∷ routes (V4 radio 1036) (datagram 9) malformed
     -- a port below the base, another address on each port, an IPv6 sender
@@ -153,14 +170,14 @@ routeCases =
 
 -- ---- settings: of all rows that apply the first is told
 
-abbrev settings : ℕ → Float → Float → ℕ → Told → Case Given
-settings receivers rate centre port is =
+abbrev settings : ℕ → ℕ → Float → Float → ℕ → Told → Case Given
+settings receivers centres rate centre port is =
     case
     (told
     (settingsTold
     (record {
       «ddc_count» = receivers;
-      «center_count» = receivers;
+      «center_count» = centres;
       «sample_rate_hz» = rate;
       «center_freq_hz» = centre;
       port = port;
@@ -176,13 +193,19 @@ settings receivers rate centre port is =
 
 abbrev pub rowCases : List (Case Given)
 rowCases =
-    settings 1 kHz48 mHz7 0 (gives (48 ∷ []))
-    ∷ settings 2 nan nan 65535 (refused 1 [])
-    ∷ settings 1 nan nan 65535 (refused 3 [])
+    settings 1 1 kHz48 mHz7 0 (gives (48 ∷ []))
+    ∷ settings 2 2 nan nan 65535 (refused 1 [])
+    ∷ settings 0 1 kHz48 mHz7 0 (refused 1 [])
+    ∷ settings 1 2 nan nan 65535 (refused 2 [])
+    ∷ settings 1 0 kHz48 mHz7 0 (refused 2 [])
+    ∷ settings 1 1 nan nan 65535 (refused 3 [])
     -- an infinite centre is 4, not 5
-    ∷ settings 1 kHz48 (inf false) 65535 (refused 4 [])
-    ∷ settings 1 kHz48 nan 65535 (refused 4 [])
-    ∷ settings 1 kHz48 mHz7 65535 (refused 6 [])
+    ∷ settings 1 1 kHz48 (inf false) 65535 (refused 4 [])
+    ∷ settings 1 1 kHz48 nan 65535 (refused 4 [])
+    -- 61,440,000 Hz, and 1 Hz less
+    ∷ settings 1 1 kHz48 (fin false 61440000 (pos 0)) 65535 (refused 5 [])
+    ∷ settings 1 1 kHz48 (fin false 61439999 (pos 0)) 65535 (refused 6 [])
+    ∷ settings 1 1 kHz48 mHz7 65535 (refused 6 [])
     ∷ []
 
 -- ---- arrivals of lists/worked, with the Rust's answers
@@ -226,34 +249,6 @@ arrivalCases =
     ∷ hears 1 1000000000 (Open 3000000000 0 2) (iqWith 4000000000 5000000000 0 mixed) (heard Restart 94096)
     ∷ []
 
--- ---- what a call leaves alone: the receiver after it
-
-abbrev leftBy : State → Call → Receiver
-leftBy st c = (step st c) .state .session .receiver
-
--- a state that expects 6, with its receiver changed
-abbrev having : (Receiver → Receiver) → State
-having f =
-    let st = expectingIn 6 0 (Open 0 0 2) in
-    record { session = with-receiver (st .session) (f (st .session .receiver)); samples = silence }
-
-abbrev pub keptCases : List (Case Given)
-keptCases =
-    -- the accepted time is the arrival's own reading, not its later one
-    num ((leftBy (having (λ r. r)) (Arrival (iqWith 1000 2000 6 []) room)) .«last_accepted_iq») 1000
-    -- a stale one uses up nothing of a window
-    ∷ win ((leftBy (having (λ r. r)) (Arrival (iqAt 0 5) room)) .parked .window) (Open 0 0 2)
-    -- a malformed one leaves the stale run
-    ∷ num
-    ((leftBy (having (λ r. with-tracker r (record { expected = Next 6; «stale_run» = 3 })))
-    (Arrival (record { now = 0; later = 0; from = V6; octets = []; waiting = [] }) room)) .tracker .«stale_run»)
-    3
-    -- a soft stall leaves the Take's time
-    ∷ num ((leftBy (having (λ r. with-stall r (delivered (r .stall)))) (Pass 5000000000 (replicate 4452 0))) .«read_returned») 0
-    -- Close leaves what waits
-    ∷ num (left (leftBy (having (λ r. with-queue-pos r 0)) (Close (replicate 2888 0)))) 238
-    ∷ []
-
 -- ---- they hold
 
 pub times-hold : Hold timeCases
@@ -286,9 +281,3 @@ unfolding pick newCommon step arrival arrived routed byOffset headerTold rows he
     Sequence.observed Sequence.meant Sequence.less Sequence.after Sequence.zeroRestarts elapsed jumpLimit plausible natOf secondsOf ofInt add sub mul div
     restartMissing rounded round outage uncovered backlog datagrams accountTime coveredTime
 arrivals-hold = refl
-
-pub kept-hold : Hold keptCases
-unfolding pick newCommon step arrival arrived routed byOffset headerTold rows heardIq heardAs hear heardMalformed oneMore eventOf restartOf capped acceptedBy leftOut
-    used missingOf waits left quietSince Sequence.observed Sequence.meant Sequence.less Sequence.after Sequence.zeroRestarts elapsed jumpLimit plausible natOf
-    secondsOf ofInt add sub mul div accountTime isDue pass passed stallSoft close stop
-kept-hold = refl

@@ -77,13 +77,17 @@ unfoldable pub oneMore : Common → Common
 oneMore c =
     with-health (with-consecutive-malformed c (min (c .«consecutive_malformed» + 1) 4294967295)) (countMalformed (c .health))
 
--- where the consecutive count is now the limit or more, the read closes; a limit of 0 works like 1
+abbrev pub discarded : Session → List ℕ → Step Session
+discarded s d = withoutPackets (done malformed) d (with-common s (oneMore (s .common)))
+
+-- the read closes
+abbrev pub givenUp : Session → List ℕ → Step Session
+givenUp s d = withoutPackets (done malformedLimit) d (with-receiver (with-common s (oneMore (s .common))) (shut (s .receiver)))
+
+-- given up where the consecutive count is now the limit or more; a limit of 0 works like 1
 unfoldable pub heardMalformed : Session → List ℕ → Step Session
 heardMalformed s d =
-    let after = with-common s (oneMore (s .common)) in
-    pick (leb (s .common .settings .«max_consecutive_malformed») (after .common .«consecutive_malformed»))
-    (withoutPackets (done malformedLimit) d (with-receiver after (shut (s .receiver))))
-    (withoutPackets (done malformed) d after)
+    pick (leb (s .common .settings .«max_consecutive_malformed») (oneMore (s .common) .«consecutive_malformed»)) (givenUp s d) (discarded s d)
 
 unfoldable pub arrived : State → Incoming → List ℕ → Routed → Step State
 arrived st i d (Routing.iq count) = heardIq st i d count

@@ -32,6 +32,7 @@ pub data Given : Type 0 where
   held : Slot → Given
   route : Routed → Given
   bit : Bool → Given
+  listed : List ℕ → Given
 
 -- the answer to a call after a list of calls of a session opened at 0, which begins with a read of number 5 at 0: 6 is expected
 abbrev pub after : List Call → Call → Given

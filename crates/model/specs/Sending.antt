@@ -71,6 +71,15 @@ send k run c =
 
 -- ---- keepalives whose interval has passed, in nanoseconds
 
+abbrev pub highEvery : ℕ
+highEvery = 100000000
+
+abbrev pub rxTxEvery : ℕ
+rxTxEvery = 200000000
+
+abbrev pub generalEvery : ℕ
+generalEvery = 800000000
+
 unfoldable pub sendHigh : ℕ → Common → Sending
 sendHigh now c = send HighPriority true (with-clocks c (with-high-priority (c .clocks) now))
 
@@ -82,15 +91,15 @@ unfoldable pub sendGeneral : ℕ → Common → Sending
 sendGeneral now c = send General true (with-clocks c (with-general (c .clocks) now))
 
 unfoldable pub highIfDue : ℕ → Common → Sending
-highIfDue now c = pick (leb 100000000 (now - c .clocks .«high_priority»)) (sendHigh now c) (idle c)
+highIfDue now c = pick (leb highEvery (now - c .clocks .«high_priority»)) (sendHigh now c) (idle c)
 
 unfoldable pub rxTxIfDue : ℕ → Common → Sending
-rxTxIfDue now c = pick (leb 200000000 (now - c .clocks .«rx_tx_specific»)) (sendRxTx now c) (idle c)
+rxTxIfDue now c = pick (leb rxTxEvery (now - c .clocks .«rx_tx_specific»)) (sendRxTx now c) (idle c)
 
 unfoldable pub generalIfDue : ℕ → Common → Sending
-generalIfDue now c = pick (leb 800000000 (now - c .clocks .general)) (sendGeneral now c) (idle c)
+generalIfDue now c = pick (leb generalEvery (now - c .clocks .general)) (sendGeneral now c) (idle c)
 
--- the shortest interval first: 100 ms for high priority, 200 ms for receive and transmit, 800 ms for general
+-- the shortest interval first
 unfoldable pub keepalive : ℕ → Common → Sending
 keepalive now c = then (highIfDue now c) (λ (d : Common). then (rxTxIfDue now d) (generalIfDue now))
 

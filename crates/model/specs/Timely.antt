@@ -22,6 +22,7 @@ use Rattle.model.specs.Routing.{Routed, iq, status, ignored, malformed, 
 use Rattle.model.specs.Settings.{accepts, attenuates}
 use Rattle.model.specs.Host.{Incoming, Call, Begin, Pass, Arrival, Take, Close, TakeMissing, TakeDiscontinuity, TakeStalled, Reply, Host, trace}
 use Rattle.model.specs.State.{orZero}
+use Rattle.model.specs.Sending.{highEvery, rxTxEvery, generalEvery}
 use Rattle.model.specs.Begin.{orAt}
 use Rattle.model.specs.Open.{attenuationAt}
 use Rattle.model.specs.declared.command.Stream.the-variants.{General, RxSpecific, TxSpecific, HighPriority}
@@ -65,13 +66,13 @@ abbrev pub passed : ℕ → ℕ → ℕ → Bool
 passed time since now = leb time (now - since)
 
 abbrev pub highDue : Clocks → ℕ → Bool
-highDue k now = passed 100000000 (k .«high_priority») now
+highDue k now = passed highEvery (k .«high_priority») now
 
 abbrev pub rxTxDue : Clocks → ℕ → Bool
-rxTxDue k now = passed 200000000 (k .«rx_tx_specific») now
+rxTxDue k now = passed rxTxEvery (k .«rx_tx_specific») now
 
 abbrev pub generalDue : Clocks → ℕ → Bool
-generalDue k now = passed 800000000 (k .general) now
+generalDue k now = passed generalEvery (k .general) now
 
 -- the later of the last valid I/Q datagram and this read's anchor
 abbrev pub quietFrom : Watch → ℕ

@@ -1,3 +1,4 @@
 -- The laws of `sequence`.
 pub mod Meanings
+pub mod Answers
 pub mod Edges

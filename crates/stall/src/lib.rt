@@ -4,9 +4,6 @@ ghost use mathlib.Core.Path.{_≡_};
 ghost use Rattle.stall.specs.Episode.{unarmed, delivered, isDue, reported, taken};
 use double::time::since;
 
-// The soft deadline that the Rust uses, in nanoseconds; 01 leaves it to the caller.
-pub const SOFT_STALL_AFTER: u64 = 4_500_000_000;
-
 pub struct StallEpisode {
     // samples came since the last report
     pub delivering: bool,
