@@ -8,7 +8,7 @@ use lib.Dec.{eqb}
 use borrow.Author.Tests.{leb-false, lt-ltb, le-ltb, le-leb, lt-leb, eq-eqb, ne-eqb}
 use Rattle.base.specs.Pick.{pick}
 use Rattle.base.proofs.Picks.{pick-t, pick-f}
-use Rattle.sequence.specs.Tracker.{less, ahead, behind, zeroRestarts, eighth, meant, meaning, rebaselined, moved, observed}
+use Rattle.sequence.specs.Tracker.{less, ahead, behind, zeroRestarts, eighth, meant, meaning, rebaselined, moved, observed, Moved}
 use Rattle.sequence.specs.declared.Observed.{Observed}
 use Rattle.sequence.specs.declared.SeqEvent.{SeqEvent}
 use Rattle.sequence.specs.declared.SeqEvent.the-variants.{InOrder, Gap, Stale, Restart}
@@ -114,3 +114,15 @@ run-at-most t seq = go (meaning (t .expected) (t .«stale_run») seq) (stale-sma
     go (Gap d) h = omega arith
     go Restart h = omega arith
     go Stale h = omega (arith, h refl)
+
+-- ---- the tracker after a number, whatever it was told
+
+moved-so : (t : SeqTracker) (seq : ℕ) (event : SeqEvent) → Moved t seq (moved t seq event .event) (moved t seq event .tracker)
+moved-so t seq InOrder = refl
+moved-so t seq (Gap d) = refl
+moved-so t seq Stale = (refl, refl)
+moved-so t seq Restart = refl
+
+pub observed-moves : (t : SeqTracker) (seq : ℕ) → Moved t seq (observed t seq .event) (observed t seq .tracker)
+unfolding observed
+observed-moves t seq = moved-so t seq (meaning (t .expected) (t .«stale_run») seq)

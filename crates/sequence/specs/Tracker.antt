@@ -1,6 +1,7 @@
 -- What a datagram's number means relative to the stream so far: 01's `observe`. Definitions only.
 use Prim.Native.Nat.{ℕ, _+_, _-_, _%_, _^_}
 use mathlib.Core.Bool.{Bool}
+use mathlib.Core.Path.{_≡_}
 use lib.Dec.{leb, ltb, eqb}
 use Rattle.base.specs.Pick.{pick}
 use Rattle.sequence.specs.declared.Expected.{Expected}
@@ -71,3 +72,11 @@ observed t seq = moved t seq (meaning (t .expected) (t .«stale_run») seq)
 -- no number is expected before the first
 abbrev pub new : SeqTracker
 new = record { expected = Nothing; «stale_run» = 0 }
+
+-- what is claimed of the tracker after a number: Stale alone keeps the expected number, and its run is one longer; any other event
+-- expects the number that follows, and its run is empty
+abbrev pub Moved : SeqTracker → ℕ → SeqEvent → SeqTracker → Type 0
+Moved t seq Stale after = (after .expected ≡ t .expected) × (after .«stale_run» ≡ t .«stale_run» + 1)
+Moved t seq InOrder after = after ≡ past seq
+Moved t seq (Gap d) after = after ≡ past seq
+Moved t seq Restart after = after ≡ past seq
