@@ -6,6 +6,7 @@ pub mod Room
 pub mod Traces
 pub mod Pairs
 pub mod Sends
+pub mod Walks
 -- trials of the definitions
 pub mod Edges
 pub mod Worked
