@@ -6,7 +6,6 @@ use Rattle.base.specs.Cases.{Hold}
 use Rattle.iq.specs.Edges.{edges}
 use Rattle.iq.specs.Iq.{magnitude, sampleOf}
 
-
 pub edges-hold : Hold edges
 unfolding mul div ofInt round pick magnitude sampleOf
 edges-hold = refl
