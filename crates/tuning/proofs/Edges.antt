@@ -9,7 +9,6 @@ use Rattle.double.specs.Whole.{natOf}
 use Rattle.tuning.specs.Alex.{onRung, hpfOf, lpfOf, alexWords}
 use Rattle.tuning.specs.Phase.{phaseWord}
 
-
 pub edges-hold : Hold edges
 unfolding phaseWord natOf mul div ofInt lt round onRung hpfOf lpfOf alexWords first pick
 edges-hold = refl
