@@ -48,7 +48,7 @@ fn arrived(
     waiting: &[u32],
     packets: &mut [u8],
 ) -> Arrived
-    requires { ⌜ (length (now waiting) ≤ 8192) × (1444 ≤ length (now packets)) ⌝ }
+    requires { ⌜ 1444 ≤ length (now packets) ⌝ }
     ensures { λ r. ⌜
         Gives (arrivalAnswer (r .answer)) (r .streams) (now (packets .exit)) (joined (r .session) (now (samples .exit)))
         (arrivedBy (joined s (now (samples .entry)))

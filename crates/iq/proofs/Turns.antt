@@ -1,11 +1,26 @@
 -- Four octets read with the least significant first, the upper three turned round: the big-endian number of those three. Assumes nothing.
-use Prim.Native.Nat.{ℕ, _+_, _*_, _/_, _%_, _<_}
-use mathlib.Core.Path.{_≡_, _∙_}
+use Prim.Native.Nat.{ℕ, zero, suc, _+_, _*_, _/_, _%_, _<_}
+use mathlib.Core.Path.{_≡_, refl, ap, _∙_}
 use native.Mathlib.Omega.{arith}
 use mathlib.Core.List.{List}
 use lib.ListN.{getD}
-use Rattle.octets.specs.Number.{beAt, leAt}
-use Rattle.iq.specs.Turn.{turnedOf}
+use Rattle.octets.specs.Number.{beAt}
+use Rattle.iq.specs.Turn.{leAt, turnedOf}
+
+-- the octets at at + k, at + (k + 1), .. as code reads them, the least significant first
+abbrev readsUpFrom : ℕ → List ℕ → ℕ → ℕ → ℕ
+readsUpFrom zero l at k = 0
+readsUpFrom (suc w) l at k = getD l (at + k) 0 + 256 * readsUpFrom w l at (suc k)
+
+reads-up-from : (w : ℕ) (l : List ℕ) (at k : ℕ) → leAt w l (at + k) ≡ readsUpFrom w l at k
+reads-up-from zero l at k = refl
+reads-up-from (suc w) l at k =
+    let e : at + k + 1 ≡ at + suc k = omega arith in
+    ap (λ (n : ℕ). getD l (at + k) 0 + 256 * n) (ap (leAt w l) e ∙ reads-up-from w l at (suc k))
+
+-- reads of a number's octets one after another read the number
+pub reads-le : (w : ℕ) (l : List ℕ) (at : ℕ) → leAt (suc w) l at ≡ getD l at 0 + 256 * readsUpFrom w l at 1
+reads-le w l at = ap (λ (n : ℕ). getD l at 0 + 256 * n) (reads-up-from w l at 1)
 
 pub turned-small : (w : ℕ) → w < 4294967296 → turnedOf w < 16777216
 unfolding turnedOf

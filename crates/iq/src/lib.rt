@@ -5,7 +5,7 @@ ghost use lib.ListN.{length};
 ghost use Rattle.octets.specs.Number.{beAt};
 ghost use Rattle.octets.specs.Written.{written};
 ghost use Rattle.iq.specs.Iq.{sampleOf, samplesOf, iqAnswer, headerTold, Parsed};
-ghost use Rattle.iq.specs.Turn.{turnedOf};
+ghost use Rattle.iq.specs.Turn.{leAt, turnedOf};
 use stream::BITS_PER_SAMPLE;
 use stream::F32_PER_DATAGRAM;
 use stream::SAMPLES_PER_DATAGRAM;
@@ -43,6 +43,24 @@ fn sample(v: u32) -> f32
     ((((v + 8388608) % 16777216) as f32) - P2_IQ_FULL_SCALE) / P2_IQ_FULL_SCALE
 }
 
+fn wide(x: u8) -> u32
+    ensures { λ r. ⌜ (r ≡ x) × (r < 256) ⌝ }
+{
+    x as u32
+}
+
+// The least significant octet first: a machine's own order, so that it is compiled to one load.
+fn get_u32_le(p: &[u8], at: usize) -> u32
+    requires { ⌜ at + 4 ≤ length (now p) ⌝ }
+    ensures { λ r. ⌜ r ≡ leAt 4 (now (p .entry)) at ⌝ }
+{
+    let a = wide(p[at]);
+    let b = wide(p[at + 1]);
+    let c = wide(p[at + 2]);
+    let d = wide(p[at + 3]);
+    d * 16777216 + c * 65536 + b * 256 + a
+}
+
 // The upper three octets of w in the other order.
 fn turned(w: u32) -> u32
     ensures { λ r. ⌜ r ≡ turnedOf w ⌝ }
@@ -56,7 +74,7 @@ fn s24_after(b: &[u8], at: usize) -> f32
     requires { ⌜ at + 4 ≤ length (now b) ⌝ }
     ensures { λ r. ⌜ r ≡ sampleOf (beAt 3 (now (b .entry)) (at + 1)) ⌝ }
 {
-    sample(turned(octets::get_u32_le(b, at)))
+    sample(turned(get_u32_le(b, at)))
 }
 
 fn read_samples(buf: &[u8], out: &mut [f32])

@@ -1,5 +1,5 @@
 -- A call by its name, and a line: what each way through gives. Assumes nothing.
-use mathlib.Core.Path.{_≡_, sym, ap, _∙_}
+use mathlib.Core.Path.{_≡_, refl, sym, ap, _∙_}
 use mathlib.Core.List.{List, [], _∷_}
 use Prim.Native.Nat.{ℕ, _+_, _≤_, _<_}
 use native.Mathlib.Omega.{arith}
@@ -21,7 +21,7 @@ use Rattle.lines.specs.Key.{bufferKey, keyCount, unsaid}
 use Rattle.lines.specs.Name.{names, stateName, openName, nameCount, ends, textOf}
 use Rattle.lines.specs.Argument.{allRead, form, argumentOctets, Arguments}
 use Rattle.lines.specs.Option.{optionsTook, optionsValues, optionsNumbers, Ran}
-use Rattle.lines.specs.Call.{expectedWord, optioned, argumentsOf, optionsOf, readNamed, readWords, wordsOf, longest, readLine, valuesOf, callOf, octetsOf, Named, nameOf, after, Line}
+use Rattle.lines.specs.Call.{expectedWord, optioned, argumentsOf, optionsOf, readNamed, readWords, wordsOf, longest, readLine, valuesOf, callOf, octetsOf, Named, nameOf, after, lineCall, lineOctets, lineNumbers, Line, onCall, Lent}
 use Rattle.lines.proofs.Forms.{getD-under}
 use Rattle.lines.proofs.Bounds.{Held, held-options, held-form, fit}
 
@@ -151,3 +151,26 @@ module _ (line : List ℕ) (ip port : ℕ) (d n c e m : List ℕ) where
                 ∙ ap (λ (i : List (List ℕ)). optionsNumbers n (optionsOf (nameOf (wordsOf line)) i)) y;
             fit = v .fit;
           }
+
+-- ---- the lent buffers
+
+module _ (line : List ℕ) (ip port : ℕ) (b d n : List ℕ) (r : Read) (c e m : List ℕ) (l : Line line ip port d n r c e m) where
+  pub a-call : r ≡ Read.Call → Lent line ip port b d n r c e m
+  a-call q =
+      record {
+        told = l .told;
+        call = l .call q ∙ ap (λ (x : Read). onCall x (lineCall line ip port) b) (sym q);
+        octets = l .octets q ∙ ap (λ (x : Read). onCall x (lineOctets line d) d) (sym q);
+        numbers = l .numbers q ∙ ap (λ (x : Read). onCall x (lineNumbers line n) n) (sym q);
+        fit = l .fit;
+      }
+
+  kept : {A : Type 0} (x : Read) → (x ≡ Read.Call → ⊥) → (new old : A) → old ≡ onCall x new old
+  kept Read.Call f new old = absurd (f refl)
+  kept Read.Nothing f new old = refl
+  kept Read.Open f new old = refl
+  kept Read.State f new old = refl
+  kept (Read.Unread x) f new old = refl
+
+  pub none-of-it : (r ≡ Read.Call → ⊥) → Lent line ip port b d n r b d n
+  none-of-it f = record { told = l .told; call = kept r f _ _; octets = kept r f _ _; numbers = kept r f _ _; fit = λ q. absurd (f q) }

@@ -160,11 +160,37 @@ abbrev pub after : List (List ℕ) → List (List ℕ)
 after [] = []
 after (w ∷ ws) = ws
 
+-- what a call of the line gives: its numbers, its octets in d and its waiting numbers in n
+abbrev pub lineCall : List ℕ → ℕ → ℕ → List ℕ
+lineCall line ip port = callOf (nameOf (wordsOf line)) ip port (valuesOf (nameOf (wordsOf line)) (after (wordsOf line)))
+
+abbrev pub lineOctets : List ℕ → List ℕ → List ℕ
+lineOctets line d =
+    octetsOf (nameOf (wordsOf line)) (valuesOf (nameOf (wordsOf line)) (after (wordsOf line))) (argumentOctets (form (nameOf (wordsOf line))) (after (wordsOf line)) d)
+
+abbrev pub lineNumbers : List ℕ → List ℕ → List ℕ
+lineNumbers line n = optionsNumbers n (optionsOf (nameOf (wordsOf line)) (after (wordsOf line)))
+
+-- what buffers hold that are written while the line is read: of a call the whole of it
 pub record Line (line : List ℕ) (ip port : ℕ) (d n : List ℕ) (r : Read) (c e m : List ℕ) : Type 0 where
   pub told : r ≡ readLine line
-  pub call : r ≡ Read.Call → c ≡ callOf (nameOf (wordsOf line)) ip port (valuesOf (nameOf (wordsOf line)) (after (wordsOf line)))
-  pub octets :
-      r ≡ Read.Call
-      → e ≡ octetsOf (nameOf (wordsOf line)) (valuesOf (nameOf (wordsOf line)) (after (wordsOf line))) (argumentOctets (form (nameOf (wordsOf line))) (after (wordsOf line)) d)
-  pub numbers : r ≡ Read.Call → m ≡ optionsNumbers n (optionsOf (nameOf (wordsOf line)) (after (wordsOf line)))
+  pub call : r ≡ Read.Call → c ≡ lineCall line ip port
+  pub octets : r ≡ Read.Call → e ≡ lineOctets line d
+  pub numbers : r ≡ Read.Call → m ≡ lineNumbers line n
+  pub fit : r ≡ Read.Call → Fit c
+
+-- a buffer after an answer: a call's, and as it was after any other
+abbrev pub onCall : {A : Type 0} → Read → A → A → A
+onCall Read.Call new old = new
+onCall Read.Nothing new old = old
+onCall Read.Open new old = old
+onCall Read.State new old = old
+onCall (Read.Unread e) new old = old
+
+-- the line was read as r, and the lent buffers, which were b, d and n, are then c, e and m
+pub record Lent (line : List ℕ) (ip port : ℕ) (b d n : List ℕ) (r : Read) (c e m : List ℕ) : Type 0 where
+  pub told : r ≡ readLine line
+  pub call : c ≡ onCall r (lineCall line ip port) b
+  pub octets : e ≡ onCall r (lineOctets line d) d
+  pub numbers : m ≡ onCall r (lineNumbers line n) n
   pub fit : r ≡ Read.Call → Fit c

@@ -8,6 +8,8 @@ ghost use Rattle.lines.specs.Key.{keyCount, valueCount, mostOctets, most
 ghost use Rattle.lines.specs.Name.{nameCount};
 use super::Expected;
 use super::LONGEST;
+use super::MOST_NUMBERS;
+use super::MOST_OCTETS;
 use super::Read;
 use super::argument;
 use super::argument::ALL_READ;
@@ -214,10 +216,9 @@ pub(crate) fn read_line(
     ip: u32,
     port: u16,
     call: &mut [u64; 8],
-    octets: &mut [u8],
-    numbers: &mut [u32],
+    octets: &mut [u8; MOST_OCTETS],
+    numbers: &mut [u32; MOST_NUMBERS],
 ) -> Read
-    requires { ⌜ (mostOctets ≤ length (now octets)) × (mostNumbers ≤ length (now numbers)) ⌝ }
     ensures { λ r. ⌜
         Call.Line (now (line .entry)) ip port (now (octets .entry)) (now (numbers .entry)) r (now (call .exit))
         (now (octets .exit)) (now (numbers .exit))

@@ -1,6 +1,6 @@
 // A line of a list of calls, read (docs/CALLS.md). What can't be read gives what was expected.
 ghost use mathlib.Core.Path.{_≡_};
-ghost use Rattle.lines.specs.Call.{Line};
+ghost use Rattle.lines.specs.Call.{Lent};
 ghost use Rattle.lines.specs.Open.{openingOf};
 ghost use Rattle.lines.specs.Found.{Stands, foundIn, firstIn};
 use model::settings::Settings;
@@ -50,7 +50,8 @@ pub enum Read {
 }
 
 // Reads a line of a session that has this address and port. A call is eight numbers (specs/Call); its datagram and its waiting
-// numbers go to the front of the lent buffers. Of an `open` nothing but its name is looked at.
+// numbers go to the front of the lent buffers. After any other answer the buffers are as they were: a line is read into buffers of
+// its own first. Of an `open` nothing but its name is looked at.
 pub fn read_call(
     line: &[u8],
     radio_ip: u32,
@@ -60,11 +61,28 @@ pub fn read_call(
     numbers: &mut [u32; MOST_NUMBERS],
 ) -> Read
     ensures { λ r. ⌜
-        Line (now (line .entry)) «radio_ip» port (now (octets .entry)) (now (numbers .entry)) r (now (call .exit))
-        (now (octets .exit)) (now (numbers .exit))
+        Lent (now (line .entry)) «radio_ip» port (now (call .entry)) (now (octets .entry)) (now (numbers .entry)) r
+        (now (call .exit)) (now (octets .exit)) (now (numbers .exit))
         ⌝ }
 {
-    call::read_line(line, radio_ip, port, call, octets, numbers)
+    let mut own = *call;
+    let mut own_octets = *octets;
+    let mut own_numbers = *numbers;
+    let read = call::read_line(
+        line,
+        radio_ip,
+        port,
+        &mut own,
+        &mut own_octets,
+        &mut own_numbers,
+    );
+    let Read::Call = read else {
+        return read;
+    };
+    *call = own;
+    *octets = own_octets;
+    *numbers = own_numbers;
+    read
 }
 
 // What an `open` asks for. One that can't be read has the settings of an `open` that says none.

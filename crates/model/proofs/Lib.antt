@@ -13,6 +13,7 @@ pub mod Slots
 pub mod Counts
 pub mod Due
 pub mod Timely
+pub mod Walks
 -- trials of the definitions
 pub mod Edges
 pub mod Worked

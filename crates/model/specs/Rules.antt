@@ -66,9 +66,10 @@ backlog limit t [] = 0
 backlog limit t (seq ∷ waiting) =
     datagrams (capped limit (observed t seq .event)) + backlog limit (observed t seq .tracker) waiting
 
--- the bound less the time that what waits covers; the walk's limit is the bound's, before that comes off
+-- the bound less the time that what waits covers; the walk's limit is the bound's, before that comes off. Outside 01's domain the
+-- waiting total saturates
 unfoldable pub uncovered : Float → ℕ → SeqTracker → List ℕ → ℕ
-uncovered rate bound t waiting = bound - coveredTime (backlog (jumpLimit bound rate) t waiting) rate
+uncovered rate bound t waiting = bound - coveredTime (min (backlog (jumpLimit bound rate) t waiting) most) rate
 
 -- the time that a restart misses: E; in a window, E as it is at the later reading with this arrival as the last accepted one, and
 -- without the time that what waits covers, by the tracker as this arrival left it

@@ -10,7 +10,7 @@ use native.Mathlib.Nat.{add-zero, zero-add, div-one, mod-one, mod-eq-of-lt, pow-
 use native.Mathlib.Numerals.{add-one, one-add}
 use native.Mathlib.Omega.{arith}
 use Rattle.octets.specs.Written.{written}
-use Rattle.octets.specs.Number.{be, beAt, leAt}
+use Rattle.octets.specs.Number.{be, beAt}
 use Rattle.octets.proofs.Writes.{stores, stores-written, getD-written-in, getD-written-out}
 
 pub length-be : (w v : ℕ) → length (be w v) ≡ w
@@ -54,20 +54,6 @@ reads-from (suc w) l at k =
 -- reads of a number's octets one after another read the number
 pub reads-be : (w : ℕ) (l : List ℕ) (at : ℕ) → beAt (suc w) l at ≡ getD l at 0 * 256 ^ w + readsFrom w l at 1
 reads-be w l at = ap (λ (n : ℕ). getD l at 0 * 256 ^ w + n) (reads-from w l at 1)
-
--- the same with the least significant octet first
-abbrev pub readsUpFrom : ℕ → List ℕ → ℕ → ℕ → ℕ
-readsUpFrom zero l at k = 0
-readsUpFrom (suc w) l at k = getD l (at + k) 0 + 256 * readsUpFrom w l at (suc k)
-
-reads-up-from : (w : ℕ) (l : List ℕ) (at k : ℕ) → leAt w l (at + k) ≡ readsUpFrom w l at k
-reads-up-from zero l at k = refl
-reads-up-from (suc w) l at k =
-    let e : at + k + 1 ≡ at + suc k = omega arith in
-    ap (λ (n : ℕ). getD l (at + k) 0 + 256 * n) (ap (leAt w l) e ∙ reads-up-from w l at (suc k))
-
-pub reads-le : (w : ℕ) (l : List ℕ) (at : ℕ) → leAt (suc w) l at ≡ getD l at 0 + 256 * readsUpFrom w l at 1
-reads-le w l at = ap (λ (n : ℕ). getD l at 0 + 256 * n) (reads-up-from w l at 1)
 
 -- ---- a number read is that of the octets at its places
 

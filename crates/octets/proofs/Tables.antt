@@ -1,10 +1,10 @@
 -- A list made from a function of the index, and the loop that fills a slice with it from the front. Assumes nothing.
-use Prim.Native.Nat.{ℕ, zero, suc, _+_, _≤_, _<_}
+use Prim.Native.Nat.{ℕ, zero, suc, _+_, _-_, _≤_, _<_, min}
 use mathlib.Core.Path.{_≡_, refl, sym, ap, _∙_}
 use mathlib.Core.Logic.{⊎-elim}
 use mathlib.Core.List.{List, [], _∷_, _++_}
-use lib.ListN.{length, set, drop, take, getD, length-append, length-drop, List·getD-append}
-use lib.Seq.{drop-cons, set-at, append-snoc, take-suc, getD-drop, getD-at}
+use lib.ListN.{length, set, drop, take, getD, length-append, length-take, length-drop, List·getD-append}
+use lib.Seq.{drop-cons, set-at, append-snoc, take-suc, take-all, take-take, getD-drop, getD-at}
 use native.Mathlib.Nat.{eq-or-lt-of-le, le-of-suc-le-suc}
 use native.Mathlib.Numerals.{add-one}
 use native.Mathlib.Omega.{arith}
@@ -33,13 +33,21 @@ module _ {A : Type 0} where
       ∙ ap (λ (k : ℕ). tab k f ++ drop k d) (sym (add-one n))
 
   -- the rule that reads a list makes a part of the list
-  pub tab-take : (n : ℕ) (q : List A) (from : ℕ) (z : A) → from + n ≤ length q → tab n (λ (k : ℕ). getD q (from + k) z) ≡ take n (drop from q)
+  pub tab-take : (n : ℕ) (q : List A) (from : ℕ) (z : A) → n ≤ length q - from → tab n (λ (k : ℕ). getD q (from + k) z) ≡ take n (drop from q)
   unfolding tab
   tab-take zero q from z h = refl
   tab-take (suc n) q from z h =
       let b : n < length (drop from q) = omega (arith, length-drop from q) in
       ap (λ (l : List A). l ++ (getD q (from + n) z ∷ [])) (tab-take n q from z (omega arith))
       ∙ sym (take-suc (drop from q) n z b ∙ ap (λ (x : A). take n (drop from q) ++ (x ∷ [])) (getD-drop from q n z))
+
+  -- the loop that copies as much as the list has, and n at most
+  pub tab-rest : (n : ℕ) (q : List A) (from : ℕ) (z : A) → tab (min n (length q - from)) (λ (k : ℕ). getD q (from + k) z) ≡ take n (drop from q)
+  tab-rest n q from z =
+      let l = drop from q in
+      tab-take (min n (length q - from)) q from z (omega arith)
+      ∙ sym (take-take (min n (length q - from)) n l (omega arith))
+      ∙ take-all (min n (length q - from)) (take n l) (omega (arith, length-take n l, length-drop from q))
 
   pub getD-tab : (n : ℕ) (f : ℕ → A) (i : ℕ) (z : A) → i < n → getD (tab n f) i z ≡ f i
   unfolding tab

@@ -1,4 +1,4 @@
--- Numbers of w octets, big-endian and, to read, little-endian. Definitions only.
+-- Numbers of w octets, big-endian. Definitions only.
 use Prim.Native.Nat.{ℕ, zero, suc, _+_, _*_, _/_, _%_, _^_}
 use mathlib.Core.List.{List, [], _∷_}
 use lib.ListN.{getD}
@@ -12,8 +12,3 @@ be (suc w) v = v / 256 ^ w % 256 ∷ be w v
 abbrev pub beAt : ℕ → List ℕ → ℕ → ℕ
 beAt zero l at = 0
 beAt (suc w) l at = getD l at 0 * 256 ^ w + beAt w l (at + 1)
-
--- the same with the least significant octet first
-abbrev pub leAt : ℕ → List ℕ → ℕ → ℕ
-leAt zero l at = 0
-leAt (suc w) l at = getD l at 0 + 256 * leAt w l (at + 1)

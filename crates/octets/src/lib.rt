@@ -1,10 +1,10 @@
-// Numbers and runs of zeros in a lent buffer, big-endian but for one reader. A place and its width have been tested by the
+// Numbers, big-endian, and runs of zeros in a lent buffer. A place and its width have been tested by the
 // caller against the buffer's length; a writer leaves every other place as it was.
 ghost use mathlib.Core.Path.{_≡_};
 ghost use Prim.Native.Nat.{_+_, _≤_, _<_};
 ghost use lib.ListN.{length};
 ghost use Rattle.octets.specs.Written.{written};
-ghost use Rattle.octets.specs.Number.{be, beAt, leAt};
+ghost use Rattle.octets.specs.Number.{be, beAt};
 ghost use Rattle.octets.specs.Packet.{zeros};
 
 fn wide(x: u8) -> u32
@@ -22,16 +22,6 @@ pub fn get_u16(p: &[u8], at: usize) -> u16
     (a * 256 + b) as u16
 }
 
-pub fn get_u24(p: &[u8], at: usize) -> u32
-    requires { ⌜ at + 3 ≤ length (now p) ⌝ }
-    ensures { λ r. ⌜ r ≡ beAt 3 (now (p .entry)) at ⌝ }
-{
-    let a = wide(p[at]);
-    let b = wide(p[at + 1]);
-    let c = wide(p[at + 2]);
-    a * 65536 + b * 256 + c
-}
-
 pub fn get_u32(p: &[u8], at: usize) -> u32
     requires { ⌜ at + 4 ≤ length (now p) ⌝ }
     ensures { λ r. ⌜ r ≡ beAt 4 (now (p .entry)) at ⌝ }
@@ -41,18 +31,6 @@ pub fn get_u32(p: &[u8], at: usize) -> u32
     let c = wide(p[at + 2]);
     let d = wide(p[at + 3]);
     a * 16777216 + b * 65536 + c * 256 + d
-}
-
-// The least significant octet first: a machine's own order, so that it is compiled to one load.
-pub fn get_u32_le(p: &[u8], at: usize) -> u32
-    requires { ⌜ at + 4 ≤ length (now p) ⌝ }
-    ensures { λ r. ⌜ r ≡ leAt 4 (now (p .entry)) at ⌝ }
-{
-    let a = wide(p[at]);
-    let b = wide(p[at + 1]);
-    let c = wide(p[at + 2]);
-    let d = wide(p[at + 3]);
-    d * 16777216 + c * 65536 + b * 256 + a
 }
 
 pub fn put_u16(p: &mut [u8], at: usize, v: u16)

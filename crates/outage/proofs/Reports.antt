@@ -3,11 +3,14 @@ use Prim.Native.Nat.{ℕ, _*_}
 use mathlib.Core.Path.{_≡_, ap, sym, _∙_}
 use mathlib.Core.List.{List}
 use lib.Ieee.{Float}
+use mathlib.Core.Bool.{true, false}
+use Rattle.base.proofs.Picks.{pick-t, pick-f}
 use Rattle.sequence.specs.declared.SeqEvent.{SeqEvent}
 use Rattle.sequence.specs.declared.SeqEvent.the-variants.{Gap, Restart}
 use Rattle.health.specs.declared.InputHealthCounters.{InputHealthCounters}
-use Rattle.stream.specs.Elapsed.{restartMissing}
-use Rattle.model.specs.Rules.{outage, missingOf, pendingAfter}
+use Rattle.stream.specs.Elapsed.{restartMissing, belowHalf}
+use Rattle.model.specs.Parts.{with-missing, with-discontinuity}
+use Rattle.model.specs.Rules.{outage, missingOf, added, pendingAfter}
 use Rattle.model.specs.Hearing.{restartOf, counted}
 use Rattle.model.specs.declared.receiver.Receiver.{Receiver}
 use Rattle.model.specs.declared.receiver.Pending.{Pending}
@@ -22,7 +25,21 @@ module _ (rate : Float) (e : SeqEvent) (missing : ℕ) (p : Pending) (h : InputH
   unfolding reportOf
   reported q g eq eg = ap (λ (x : Pending). made x g) eq ∙ ap (made (pendingAfter rate e missing p)) eg
 
--- ---- what the code reports of a gap, and of a restart
+-- ---- a gap of k: its missing, then the slot that this goes to
+
+module _ (rate : Float) (k : ℕ) (p : Pending) (h : InputHealthCounters) (n : ℕ) (q : Pending) (g : InputHealthCounters) (c : g ≡ counted (Gap k) h) where
+  gap-reported : q ≡ pendingAfter rate (Gap k) n p → n ≡ 238 * k → record { missing = n; pending = q; health = g } ≡ reportOf rate (Gap k) (238 * k) p h
+  gap-reported s e = reported rate (Gap k) n p h q g s c ∙ ap (λ (m : ℕ). reportOf rate (Gap k) m p h) e
+
+  pub gap-short : q ≡ with-missing p (added (p .missing) n) → belowHalf n rate ≡ true → n ≡ 238 * k → record { missing = n; pending = q; health = g } ≡ reportOf rate (Gap k) (238 * k) p h
+  unfolding pendingAfter
+  gap-short s b = gap-reported (s ∙ sym (pick-t _ _ _ b))
+
+  pub gap-long : q ≡ with-discontinuity p (added (p .discontinuity) n) → belowHalf n rate ≡ false → n ≡ 238 * k → record { missing = n; pending = q; health = g } ≡ reportOf rate (Gap k) (238 * k) p h
+  unfolding pendingAfter
+  gap-long s b = gap-reported (s ∙ sym (pick-f _ _ _ b))
+
+-- ---- what the code reports of an event
 
 module _ (rate : Float) (event : SeqEvent) (r : Receiver) (h : InputHealthCounters) (reading later : ℕ) (waiting : List ℕ) where
   abbrev told : SeqEvent → Report

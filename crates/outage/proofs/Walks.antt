@@ -1,11 +1,12 @@
 -- The walk over the waiting numbers, one turn of the loop, and what it leaves of a restart's time. Assumes nothing.
-use Prim.Native.Nat.{ℕ, _+_, _-_, _≤_, _<_}
+use Prim.Native.Nat.{ℕ, _+_, _-_, _≤_, _<_, min}
 use mathlib.Core.Path.{_≡_, sym, ap, _∙_}
 use mathlib.Core.List.{List, _∷_}
 use lib.ListN.{length, getD, drop, drop-of-length-le}
 use lib.Seq.{drop-cons}
 use lib.Ieee.{Float}
 use native.Mathlib.Numerals.{add-one}
+use Rattle.double.specs.Whole.{most}
 use Rattle.stream.specs.Elapsed.{jumpLimit, coveredTime}
 use Rattle.sequence.specs.Tracker.{observed}
 use Rattle.sequence.specs.declared.Observed.{Observed}
@@ -35,7 +36,7 @@ module _ (rate : Float) (accepted : ℕ) (window : Window) (now later : ℕ) (t 
   outage-outside since e h = h ∙ ap (λ (x : Window). outage rate accepted x now later t waiting) (sym e)
 
   pub outage-parked : (from accounted left bound total covered rest : ℕ) → window ≡ Open from accounted left → bound ≡ elapsed rate now window later
-      → total ≡ backlog (jumpLimit bound rate) t waiting → covered ≡ coveredTime total rate → rest ≡ bound - covered
+      → total ≡ min (backlog (jumpLimit bound rate) t waiting) most → covered ≡ coveredTime total rate → rest ≡ bound - covered
       → rest ≡ outage rate accepted window now later t waiting
   unfolding outage uncovered
   outage-parked from accounted left bound total covered rest e hb ht hc hr =

@@ -1,10 +1,11 @@
 // The time that a gap or a restart is judged against, and what waits after a restart. 01, Numbers in the stream.
 ghost use mathlib.Core.Path.{_≡_};
-ghost use Prim.Native.Nat.{_≤_};
-ghost use lib.ListN.{length};
+ghost use Prim.Native.Nat.{min};
+ghost use Rattle.double.specs.Whole.{most};
 ghost use Rattle.stream.specs.Elapsed.{jumpLimit};
 ghost use Rattle.model.specs.Rules as Rules;
 use double::time::since;
+use double::whole::saturating_add;
 use model::receiver::Window;
 use sequence::SeqEvent;
 use sequence::SeqTracker;
@@ -47,7 +48,7 @@ pub fn capped(limit: u64, event: SeqEvent) -> SeqEvent
 
 // The datagrams that a waiting number of this event stands for.
 fn datagrams(event: SeqEvent) -> u64
-    ensures { λ r. ⌜ (r ≡ Rules.datagrams event) × (r ≤ 4294967296) ⌝ }
+    ensures { λ r. ⌜ r ≡ Rules.datagrams event ⌝ }
 {
     match event {
         SeqEvent::InOrder => 1,
@@ -59,8 +60,7 @@ fn datagrams(event: SeqEvent) -> u64
 
 // The datagrams that the waiting numbers stand for, each judged as it will be when it arrives.
 fn backlog_datagrams(bound: u64, rate: f64, tracker: SeqTracker, waiting: &[u32]) -> u64
-    requires { ⌜ length (now waiting) ≤ 8192 ⌝ }
-    ensures { λ r. ⌜ r ≡ Rules.backlog (jumpLimit bound rate) tracker (now (waiting .entry)) ⌝ }
+    ensures { λ r. ⌜ r ≡ min (Rules.backlog (jumpLimit bound rate) tracker (now (waiting .entry))) most ⌝ }
 {
     let plausible = jump_limit(bound, rate);
     let mut copy = tracker;
@@ -69,7 +69,7 @@ fn backlog_datagrams(bound: u64, rate: f64, tracker: SeqTracker, waiting: &[u32]
     while i < waiting.len() {
         let seen = copy.observe(waiting[i]);
         let event = seen.event;
-        total += datagrams(capped(plausible, event));
+        total = saturating_add(total, datagrams(capped(plausible, event)));
         copy = seen.tracker;
         i += 1;
     }
@@ -87,7 +87,6 @@ pub fn restart_outage(
     tracker: SeqTracker,
     waiting: &[u32],
 ) -> u64
-    requires { ⌜ length (now waiting) ≤ 8192 ⌝ }
     ensures { λ r. ⌜ r ≡ Rules.outage rate accepted window reading later tracker (now (waiting .entry)) ⌝ }
 {
     let Window::Open {

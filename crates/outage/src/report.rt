@@ -1,7 +1,6 @@
 // What an accepted arrival misses, and where it is told and counted.
 ghost use mathlib.Core.Path.{_≡_};
-ghost use Prim.Native.Nat.{_*_, _≤_};
-ghost use lib.ListN.{length};
+ghost use Prim.Native.Nat.{_*_};
 ghost use Rattle.stream.specs.Elapsed.{restartMissing};
 ghost use Rattle.model.specs.Hearing.{restartOf};
 ghost use Rattle.model.specs.Parts as Parts;
@@ -59,7 +58,6 @@ fn report_restart(rate: f64, outage: u64, pending: Pending, health: InputHealthC
 
 // The time that a restart misses, of a receiver whose tracker has heard it.
 fn outage_after(rate: f64, r: Receiver, reading: u64, later: u64, waiting: &[u32]) -> u64
-    requires { ⌜ length (now waiting) ≤ 8192 ⌝ }
     ensures { λ t. ⌜
         t ≡ Rules.outage rate (r .«last_accepted_iq») (r .parked .window) reading later (r .tracker) (now (waiting .entry))
         ⌝ }
@@ -88,7 +86,6 @@ pub fn report_event(
     later: u64,
     waiting: &[u32],
 ) -> Report
-    requires { ⌜ length (now waiting) ≤ 8192 ⌝ }
     ensures { λ p. ⌜
         p ≡ reportOf rate event (Rules.missingOf event (restartOf rate r reading later (now (waiting .entry)))) (r .pending)
         health

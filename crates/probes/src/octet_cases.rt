@@ -2,14 +2,12 @@
 ghost use Prim.Native.Nat.{_<_};
 use casebook::answer::Answer;
 
-pub const TABLE: [u8; 88] = *b"get_u16 1o\n\
-    get_u24 1o\n\
+pub const TABLE: [u8; 63] = *b"get_u16 1o\n\
     get_u32 1o\n\
     put_u16 2o\n\
     put_u24 2o\n\
     put_u32 2o\n\
-    clear 1o\n\
-    get_u32_le 1o";
+    clear 1o";
 
 fn get(row: usize, p: &[u8], at: usize) -> Answer
     requires { ⌜ at < 65536 ⌝ }
@@ -20,18 +18,8 @@ fn get(row: usize, p: &[u8], at: usize) -> Answer
         }
     }
     if row == 1 {
-        if at + 3 <= p.len() {
-            return Answer::Number(octets::get_u24(p, at) as u64);
-        }
-    }
-    if row == 2 {
         if at + 4 <= p.len() {
             return Answer::Number(octets::get_u32(p, at) as u64);
-        }
-    }
-    if row == 7 {
-        if at + 4 <= p.len() {
-            return Answer::Number(octets::get_u32_le(p, at) as u64);
         }
     }
     Answer::Nothing
@@ -40,7 +28,7 @@ fn get(row: usize, p: &[u8], at: usize) -> Answer
 fn put(row: usize, p: &mut [u8], at: usize, v: u32) -> Answer
     requires { ⌜ at < 65536 ⌝ }
 {
-    if row == 3 {
+    if row == 2 {
         if v < 65536 {
             if at + 2 <= p.len() {
                 octets::put_u16(p, at, v as u16);
@@ -48,13 +36,13 @@ fn put(row: usize, p: &mut [u8], at: usize, v: u32) -> Answer
             }
         }
     }
-    if row == 4 {
+    if row == 3 {
         if at + 3 <= p.len() {
             octets::put_u24(p, at, v);
             return Answer::Octets;
         }
     }
-    if row == 5 {
+    if row == 4 {
         if at + 4 <= p.len() {
             octets::put_u32(p, at, v);
             return Answer::Octets;
@@ -78,10 +66,10 @@ pub fn answer(row: usize, n: [u64; 6], p: &mut [u8]) -> Answer {
     }
     let at = n[0] as usize;
     let v = n[1];
-    if row < 3 || row == 7 {
+    if row < 2 {
         return get(row, p, at);
     }
-    if row == 6 {
+    if row == 5 {
         return clear(p, at);
     }
     if v < 4294967296 {

@@ -1,8 +1,6 @@
 // A receiver hears a valid I/Q datagram: its number is judged, its samples are read, what it misses is reported, and it waits.
 ghost use mathlib.Core.Path.{_≡_};
 ghost use mathlib.Core.List.{[], _∷_};
-ghost use Prim.Native.Nat.{_≤_};
-ghost use lib.ListN.{length};
 ghost use Rattle.base.specs.Told.{gives};
 ghost use Rattle.iq.specs.Iq.{headerTold};
 ghost use Rattle.model.specs.Hearing.{valid, eventOf, leftOut, queued};
@@ -89,8 +87,8 @@ pub struct Heard {
     pub health: InputHealthCounters,
 }
 
-// The datagram has this count and a right header, and no more numbers wait than a socket buffer holds: whoever routed it has tested
-// both. The number is judged before a sample is written, so that Stale leaves the lent samples as they were.
+// The datagram has this count and a right header: whoever routed it has tested this. The number is judged before a sample is written,
+// so that Stale leaves the lent samples as they were.
 pub fn hear(
     rate: f64,
     r: Receiver,
@@ -102,7 +100,7 @@ pub fn hear(
     datagram: &[u8],
     waiting: &[u32],
 ) -> Heard
-    requires { ⌜ (headerTold (now datagram) ≡ gives (count ∷ [])) × (length (now waiting) ≤ 8192) ⌝ }
+    requires { ⌜ headerTold (now datagram) ≡ gives (count ∷ []) ⌝ }
     ensures { λ h. ⌜
         Hears rate r health (now (samples .entry)) reading later count (now (datagram .entry)) (now (waiting .entry)) h
         (now (samples .exit))

@@ -1,9 +1,9 @@
 -- Take: what is handed out, by the numbers that the code works out. Assumes nothing.
-use Prim.Native.Nat.{ℕ, _-_, _/_, _≤_, _<_, min}
+use Prim.Native.Nat.{ℕ, _-_, _*_, _/_, _≤_, _<_, min}
 use mathlib.Core.Path.{_≡_, sym, ap, _∙_}
 use mathlib.Core.Bool.{true, false, not}
 use mathlib.Core.List.{List, []}
-use lib.ListN.{length}
+use lib.ListN.{length, take, drop}
 use lib.Ieee.{Float}
 use native.Mathlib.Omega.{arith}
 use borrow.Author.Tests.{ltb-true, le-ltb}
@@ -26,12 +26,16 @@ module _ (st : State) (now : ℕ) (buffer : List Float) where
   gave n e q =
       replied (took n) [] [] e (record { session = record { common = with-last-reading (st .session .common) now; receiver = q }; samples = st .samples })
 
+  -- as many are copied out and as many leave the queue as the answer says: so many fit, and so many wait
   pub taken-out : (n : ℕ) (e : List Float) (q : Receiver) → notReading (st .session) ≡ false → fell (st .session) now ≡ false → 2 ≤ length buffer
       → waits (st .session .receiver) ≡ true → n ≡ min (length buffer / 2) (left (st .session .receiver))
-      → e ≡ written buffer 0 (front (st .session .receiver) (st .samples) n) → q ≡ handed (st .session .receiver) now n → gave n e q ≡ takeOut st now buffer
+      → e ≡ written buffer 0 (take (min (2 * n) (length buffer)) (drop (2 * st .session .receiver .«queue_pos») (st .samples)))
+      → q ≡ handed (st .session .receiver) now (min n (left (st .session .receiver))) → gave n e q ≡ takeOut st now buffer
   unfolding takeOut handOut
   taken-out n e q h10 h11 h16 h17 hn he hq =
-      ap (λ (x : List Float). gave n x q) he
-      ∙ ap (gave n (written buffer 0 (front (st .session .receiver) (st .samples) n))) hq
+      let fit : min (2 * n) (length buffer) ≡ 2 * n = omega (arith, hn) in
+      let wait : min n (left (st .session .receiver)) ≡ n = omega (arith, hn) in
+      ap (λ (x : List Float). gave n x q) (he ∙ ap (λ (k : ℕ). written buffer 0 (take k (drop (2 * st .session .receiver .«queue_pos») (st .samples)))) fit)
+      ∙ ap (gave n (written buffer 0 (front (st .session .receiver) (st .samples) n))) (hq ∙ ap (handed (st .session .receiver) now) wait)
       ∙ ap (handOut st now buffer) hn
       ∙ sym (pick-f _ _ _ h10 ∙ pick-f _ _ _ h11 ∙ pick-f _ _ _ (le-ltb (length buffer) 2 h16) ∙ pick-f _ _ _ (ap not h17))

@@ -1,7 +1,6 @@
 // Take: as many pairs of the queue as the buffer has room for; then the read is closed and delivering is on.
 ghost use mathlib.Core.Path.{_≡_};
 ghost use mathlib.Core.List.{[]};
-ghost use Prim.Native.Nat.{min};
 ghost use Rattle.model.specs.Answer.{takeAnswer};
 ghost use Rattle.model.specs.State.{replied};
 ghost use Rattle.model.specs.Take as Take;
@@ -11,16 +10,11 @@ use model::answer::TakeAnswer;
 use model::session::Session;
 use receiving::queue::copy_out;
 use receiving::queue::handed;
+use receiving::queue::least;
 use receiving::queue::left;
 use receiving::queue::waits;
 use receiving::read::not_reading;
 use stream::F32_PER_DATAGRAM;
-
-fn least(a: usize, b: usize) -> usize
-    ensures { λ r. ⌜ r ≡ min a b ⌝ }
-{
-    if a <= b { a } else { b }
-}
 
 // Hands out waiting samples, at `reading`: `samples` are the 476 f32 lent beside the session, `buffer` gets I, Q pairs from its front,
 // as many as it has room for. Took: so many pairs; the read is closed. What is left waits for the next read's Take. NotNow (10),

@@ -109,9 +109,9 @@ joined-before [] n h l = rw (let z : n ≡ 0 = omega arith in z)
 joined-before (x ∷ xs) zero h l = let z : _≡_ {A = ℕ} (suc (length xs)) 0 = ap length (h refl) in absurd (omega arith)
 joined-before (x ∷ xs) (suc n) h l = refl
 
-pub word-at : (s : List ℕ) (at start end : ℕ) → start ≡ at + run blank (drop at s) → end ≡ start + run filled (drop start s) → start ≤ length s
-    → end ≤ length s → WordAt s at start end
-word-at s at start end b e m n =
+pub word-at : (s : List ℕ) (at start end : ℕ) → at ≤ length s → start ≡ at + run blank (drop at s) → end ≡ start + run filled (drop start s)
+    → start ≤ length s → end ≤ length s → WordAt s at start end
+word-at s at start end l b e m n =
     let d = drop at s in
     let w = drop start s in
     let k = run filled w in
@@ -120,6 +120,8 @@ word-at s at start end b e m n =
     let q : k ≡ end - start = omega arith in
     let none : k ≡ 0 → w ≡ [] = λ z. sym i ∙ stops blank d (ap (run filled) i ∙ z) in
     record {
+      starts = omega arith;
+      ends = e;
       from = omega arith;
       ordered = omega arith;
       within = n;
@@ -130,6 +132,21 @@ word-at s at start end b e m n =
           ∙ joined-before w k none (omega (arith, length-drop start s))
           ∙ ap (λ (l : List ℕ). before (take k w) (words l)) o
           ∙ ap (λ (j : ℕ). before (take j w) (words (drop end s))) q;
+    }
+
+-- past the text no word is left
+pub no-word-past : (s : List ℕ) (at : ℕ) → length s < at → WordAt s at (length s) (length s)
+unfolding before words parts notEmpty run
+no-word-past s at h =
+    let none : drop at s ≡ [] = drop-of-length-le s {i = at} (omega arith) in
+    let end : drop (length s) s ≡ [] = drop-of-length-le s {i = length s} (omega arith) in
+    record {
+      starts = rw none (omega arith);
+      ends = rw end (omega arith);
+      from = omega arith;
+      ordered = omega arith;
+      within = omega arith;
+      reads = rw (none, end, let z : length s - length s ≡ 0 = omega arith in z) refl;
     }
 
 -- a part that is lent up to the end of the text

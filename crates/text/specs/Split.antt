@@ -1,10 +1,11 @@
 -- A text in parts, and its words. Definitions only.
-use Prim.Native.Nat.{ℕ, _≤_, _-_}
+use Prim.Native.Nat.{ℕ, _+_, _-_, _≤_, min}
 use mathlib.Core.Path.{_≡_}
 use mathlib.Core.Bool.{Bool, not, cond, _||_}
 use mathlib.Core.List.{List, [], _∷_}
 use lib.Dec.{eqb}
 use lib.ListN.{length, take, drop}
+use Rattle.text.specs.Run.{run}
 
 -- x before the first part
 unfoldable pub grown : ℕ → List (List ℕ) → List (List ℕ)
@@ -40,9 +41,12 @@ before (x ∷ xs) ws = (x ∷ xs) ∷ ws
 abbrev pub part : List ℕ → ℕ → ℕ → List ℕ
 part s a e = take (e - a) (drop a s)
 
--- of what s has from at on, the first word is that from start to end
+-- of what s has from at on, the first word is that from start to end: behind the blanks, as far as no blank stands. Where none is
+-- left both are the text's end
 pub record WordAt (s : List ℕ) (at start end : ℕ) : Type 0 where
-  pub from : at ≤ start
+  pub starts : start ≡ min at (length s) + run blank (drop at s)
+  pub ends : end ≡ start + run filled (drop start s)
+  pub from : min at (length s) ≤ start
   pub ordered : start ≤ end
   pub within : end ≤ length s
   pub reads : words (drop at s) ≡ before (part s start end) (words (drop end s))

@@ -81,11 +81,14 @@ pub struct Word {
     pub end: usize,
 }
 
-// The first word from `at` on; it ends where it starts if none is left.
+// The first word from `at` on; it starts and ends at the end of s if none is left.
 pub fn word_at(s: &[u8], at: usize) -> Word
-    requires { ⌜ at ≤ length (now s) ⌝ }
     ensures { λ r. ⌜ WordAt (now (s .entry)) at (r .start) (r .end) ⌝ }
 {
+    let n = s.len();
+    if n < at {
+        return Word { start: n, end: n };
+    }
     let start = at + past_blanks(&s[at..]);
     let end = start + find_blank(&s[start..]);
     Word { start, end }

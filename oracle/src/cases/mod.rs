@@ -32,11 +32,9 @@ const FILES: [(&str, Run); 9] = [
 
 /// The functions of octets alone, of which manta has no counterpart. A name that is neither here nor in a file above
 /// is an error, so that no case goes unnoticed.
-const OURS: [&str; 8] = [
+const OURS: [&str; 6] = [
     "get_u16",
-    "get_u24",
     "get_u32",
-    "get_u32_le",
     "put_u16",
     "put_u24",
     "put_u32",

@@ -1,5 +1,6 @@
 -- `discovery::mac_at` meets its contract: six octets read one after another are a part of the list. Assumes nothing.
 use native.Mathlib.Nat.{add-zero}
+use native.Mathlib.Omega.{arith}
 use borrow.Author.Needs.{needs}
 use Rattle.octets.specs.Table.{tab}
 use Rattle.octets.proofs.Tables.{tab-take}
@@ -43,7 +44,7 @@ returns : tie.Need-returns
 unfolding tab
 returns c =
     let s = c .before .before .before .before .before .before in
-    rw add-zero at (tab-take 6 (s .args .buf .now) (s .args .at) 0 (s .pre))
+    rw add-zero at (tab-take 6 (s .args .buf .now) (s .args .at) 0 (omega (arith, s .pre)))
 
 pub mac-at-spec : {M : Type 1} → statement M
 mac-at-spec =

@@ -65,7 +65,7 @@ returns-6 c = let a = c .before .before .before .before .before .before .before 
     (was (c .before .before .before .before .before .before .before .before .before .not-reading .ensures) (c .before .before .before .before .before .before .before .before .if1 .left)) (le-ltb _ _ (c .before .before .before .before .before .before .if2 .left)) (was (c .before .before .before .before .before .waits .ensures) (c .before .before .before .before .if3 .left)) (c .before .before .before .if4 .left) (c .before .before .if5 .left) (omega (arith, c .before .if6 .taken)))
 
 arrived-requires : tie.Need-arrived-requires
-arrived-requires c κs = (c .before .before .before .before .if5 .left, c .before .before .before .if6 .left)
+arrived-requires c κs = c .before .before .before .if6 .left
 
 same-length : tie.Need-same-length
 same-length c = search needs

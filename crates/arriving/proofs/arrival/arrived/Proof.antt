@@ -16,11 +16,9 @@ enum-known-kind : tie.Need-enum-known-kind
 enum-known-kind c = search needs
 
 hear-requires : tie.Need-hear-requires
-hear-requires c κs = let a = c .before .before .before .before .before .before .before .before .before .before .before .args in (
-  iq-header (joined (a .s) (a .samples .now)) (a .reading) (a .later) (a .from) (a .datagram .now) (a .waiting .now) (a .packets .now) _ (c .before .before .before .before .before .before .routed .ensures)
-      _ (c .before .before .before .before .kind .given .1),
-  c .before .before .before .before .before .before .before .before .before .before .before .pre .0,
-)
+hear-requires c κs = let a = c .before .before .before .before .before .before .before .before .before .before .before .args in
+    iq-header (joined (a .s) (a .samples .now)) (a .reading) (a .later) (a .from) (a .datagram .now) (a .waiting .now) (a .packets .now) _ (c .before .before .before .before .before .before .routed .ensures)
+    _ (c .before .before .before .before .kind .given .1)
 
 heard-iq-requires : tie.Need-heard-iq-requires
 heard-iq-requires c κs = search needs

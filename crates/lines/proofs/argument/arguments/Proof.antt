@@ -29,7 +29,7 @@ word-of-requires : tie.Need-word-of-requires Inv-loop μ-loop
 word-of-requires c κs = (search needs, omega (arith, four-words (c .before .before .before .before .before .args .name), c .before .loop .inv .1))
 
 word-at-requires : tie.Need-word-at-requires Inv-loop μ-loop
-word-at-requires c κs = c .before .before .loop .inv .0 .within
+word-at-requires c κs = search needs
 
 same-length : tie.Need-same-length Inv-loop μ-loop
 same-length c = search needs

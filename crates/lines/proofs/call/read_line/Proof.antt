@@ -22,19 +22,13 @@ returns-4 : tie.Need-returns-4
 returns-4 c = not-a-call _ _ _ _ _ _ _ _ (c .before .before .before .before .before .if1 .left) _ (c .before .before .before .before .begins .ensures .cut) _ _ (c .before .before .before .before .begins .ensures .word) (c .before .before .if2 .left) _ (c .before .before .before .before .begins .ensures .named) (c .if4 .taken)
 
 slice-aggregate-s : tie.Need-slice-aggregate-s
-slice-aggregate-s c = sym (length-take-le (c .before .before .before .before .before .begins .result .text) (c .before .before .before .before .before .before .before .before .before .before .args .line .now) (c .before .before .before .before .before .begins .ensures .within))
+slice-aggregate-s c = sym (length-take-le (c .before .before .before .before .before .begins .result .text) (c .before .before .before .before .before .before .before .before .args .line .now) (c .before .before .before .before .before .begins .ensures .within))
 
 read-named-requires : tie.Need-read-named-requires
 read-named-requires c κs = search needs
 
-same-length : tie.Need-same-length
-same-length c = search needs
-
-same-length-2 : tie.Need-same-length-2
-same-length-2 c = search needs
-
 returns-5 : tie.Need-returns-5
-returns-5 c = called _ _ _ _ _ _ _ _ (c .before .before .before .before .before .before .before .before .before .before .before .before .before .before .if1 .left) _ (c .before .before .before .before .before .before .before .before .before .before .before .before .before .begins .ensures .cut) _ _ (c .before .before .before .before .before .before .before .before .before .before .before .before .before .begins .ensures .word) (c .before .before .before .before .before .before .before .before .before .before .before .if2 .left) _ (c .before .before .before .before .before .before .before .before .before .before .before .before .before .begins .ensures .named) (c .before .before .before .before .before .before .before .before .before .before .if3 .left) (c .before .before .before .before .before .before .before .before .before .if4 .left) _ (c .before .before .before .before .read-named .ensures)
+returns-5 c = called _ _ _ _ _ _ _ _ (c .before .before .before .before .before .before .before .before .before .before .if1 .left) _ (c .before .before .before .before .before .before .before .before .before .begins .ensures .cut) _ _ (c .before .before .before .before .before .before .before .before .before .begins .ensures .word) (c .before .before .before .before .before .before .before .if2 .left) _ (c .before .before .before .before .before .before .before .before .before .begins .ensures .named) (c .before .before .before .before .before .before .if3 .left) (c .before .before .before .before .before .if4 .left) _ (c .read-named .ensures)
 
 pub read-line-spec : {M : Type 1} → statement M
 read-line-spec =
@@ -47,6 +41,4 @@ read-line-spec =
     returns-4
     slice-aggregate-s
     read-named-requires
-    same-length
-    same-length-2
     returns-5)

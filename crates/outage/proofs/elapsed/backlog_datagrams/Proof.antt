@@ -1,10 +1,10 @@
 -- `outage::elapsed::backlog_datagrams` meets its contract: each turn of the loop takes one number off what is left of the walk. Assumes nothing.
 use borrow.Author.Needs.{needs}
-use Prim.Native.Nat.{ℕ, _≤_, _-_, _+_, _*_}
+use Prim.Native.Nat.{ℕ, _≤_, _-_, _+_, min}
 use mathlib.Core.Path.{_≡_, ap, _∙_}
 use lib.ListN.{length, drop}
-use native.Mathlib.Nat.{zero-add}
 use native.Mathlib.Omega.{arith}
+use Rattle.double.specs.Whole.{most}
 use Rattle.model.specs.Rules.{backlog}
 use Rattle.outage.proofs.Walks.{walk-more, walk-done}
 use Rattle.outage.proofs.elapsed.backlog_datagrams.Statement.{statement}
@@ -12,7 +12,7 @@ use Rattle.outage.proofs.elapsed.backlog_datagrams.Tie as tie
 
 abbrev Inv-loop : tie.InvT-loop
 Inv-loop bound rate waiting plausible copy₀ total₀ i₀ copy total i =
-    (i ≤ length waiting) × (total ≤ i * 4294967296) × (total + backlog plausible copy (drop i waiting) ≡ backlog plausible copy₀ waiting)
+    (i ≤ length waiting) × (total ≤ most) × (min (total + backlog plausible copy (drop i waiting)) most ≡ min (backlog plausible copy₀ waiting) most)
 
 abbrev μ-loop : tie.MeasureT-loop
 μ-loop bound rate waiting plausible copy₀ total₀ i₀ copy total i = length waiting - i
@@ -21,7 +21,7 @@ jump-limit-requires : tie.Need-jump-limit-requires Inv-loop μ-loop
 jump-limit-requires c κs = search needs
 
 loop-holds : tie.Need-loop-holds Inv-loop μ-loop
-loop-holds c = (omega arith, omega arith, zero-add _)
+loop-holds c = (omega arith, omega arith, omega arith)
 
 mul-observe : tie.Need-mul-observe Inv-loop μ-loop
 mul-observe c = omega arith
@@ -38,8 +38,8 @@ capped-requires c κs = search needs
 datagrams-requires : tie.Need-datagrams-requires Inv-loop μ-loop
 datagrams-requires c κs = search needs
 
-add-total : tie.Need-add-total Inv-loop μ-loop
-add-total c = omega (arith, c .datagrams .ensures .1, c .before .before .before .before .before .loop .inv .1, c .before .before .before .before .before .before .before .before .pre)
+saturating-add-requires : tie.Need-saturating-add-requires Inv-loop μ-loop
+saturating-add-requires c κs = search needs
 
 add-i : tie.Need-add-i Inv-loop μ-loop
 add-i c = omega arith
@@ -48,17 +48,17 @@ loop-less : tie.Need-loop-less Inv-loop μ-loop
 loop-less c = omega arith
 
 loop-again : tie.Need-loop-again Inv-loop μ-loop
-loop-again c = let l = c .before .before .before .before .before .before .loop in
-    let a = c .before .before .before .before .before .before .before .before .before .args in
-    let w = walk-more (c .before .before .before .before .before .before .before .jump-limit .result) (l .copy) (a .waiting .now) (l .i) _ _ _ (omega arith) (c .before .before .before .observe .ensures) (c .before .before .capped .ensures) (c .before .datagrams .ensures .0) in
-    (omega arith, omega (arith, c .before .datagrams .ensures .1, l .inv .1), omega (arith, w, l .inv .2))
+loop-again c = let l = c .before .before .before .before .before .before .before .loop in
+    let a = c .before .before .before .before .before .before .before .before .before .before .args in
+    let w = walk-more (c .before .before .before .before .before .before .before .before .jump-limit .result) (l .copy) (a .waiting .now) (l .i) _ _ _ (omega arith) (c .before .before .before .before .observe .ensures) (c .before .before .before .capped .ensures) (c .before .before .datagrams .ensures) in
+    (omega arith, omega (arith, c .before .saturating-add .ensures), omega (arith, w, l .inv .2, c .before .saturating-add .ensures))
 
 returns : tie.Need-returns Inv-loop μ-loop
 returns c = let l = c .before .loop in
     let a = c .before .before .before .before .args in
     let w = walk-done (c .before .before .jump-limit .result) (l .copy) (a .waiting .now) (l .i) (omega arith) in
-    let e : l .total ≡ backlog (c .before .before .jump-limit .result) (a .tracker) (a .waiting .now) = omega (arith, w, l .inv .2) in
-    e ∙ ap (λ (n : ℕ). backlog n (a .tracker) (a .waiting .now)) (c .before .before .jump-limit .ensures)
+    let e : l .total ≡ min (backlog (c .before .before .jump-limit .result) (a .tracker) (a .waiting .now)) most = omega (arith, w, l .inv) in
+    e ∙ ap (λ (n : ℕ). min (backlog n (a .tracker) (a .waiting .now)) most) (c .before .before .jump-limit .ensures)
 
 pub backlog-datagrams-spec : {M : Type 1} → statement M
 backlog-datagrams-spec =
@@ -73,7 +73,7 @@ backlog-datagrams-spec =
     observe-requires
     capped-requires
     datagrams-requires
-    add-total
+    saturating-add-requires
     add-i
     loop-less
     loop-again

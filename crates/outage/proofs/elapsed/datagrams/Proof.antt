@@ -1,5 +1,4 @@
 -- `outage::elapsed::datagrams` meets its contract. Assumes nothing.
-use native.Mathlib.Omega.{arith}
 use Rattle.model.specs.Rules as Rules
 use borrow.Author.Needs.{needs}
 use Rattle.outage.proofs.elapsed.datagrams.Statement.{statement}
@@ -25,19 +24,19 @@ enum-told-3 c = search needs
 
 returns : tie.Need-returns
 unfolding Rules.datagrams
-returns c = (simp (c .enum-told .given .1), omega arith)
+returns c = simp (c .enum-told .given .1)
 
 returns-2 : tie.Need-returns-2
 unfolding Rules.datagrams
-returns-2 c = (simp (c .before .event .given .1), omega arith)
+returns-2 c = simp (c .before .event .given .1)
 
 returns-3 : tie.Need-returns-3
 unfolding Rules.datagrams
-returns-3 c = (simp (c .enum-told2 .given .1), omega arith)
+returns-3 c = simp (c .enum-told2 .given .1)
 
 returns-4 : tie.Need-returns-4
 unfolding Rules.datagrams
-returns-4 c = (simp (c .enum-told3 .given .1), omega arith)
+returns-4 c = simp (c .enum-told3 .given .1)
 
 pub datagrams-spec : {M : Type 1} → statement M
 datagrams-spec =

@@ -1,13 +1,10 @@
--- `outage::report::report_gap` meets its contract. Assumes nothing.
-use mathlib.Core.Path.{sym, ap, _∙_}
-use Rattle.base.proofs.Picks.{pick-t, pick-f}
+-- `outage::report::report_gap` meets its contract: what it misses is the last fact of each branch. Assumes nothing.
+use mathlib.Core.Path.{ap, _∙_}
+use native.Mathlib.Omega.{arith}
 use Rattle.base.proofs.Tests.{was}
-use Prim.Native.Nat.{_*_}
-use Rattle.sequence.specs.declared.SeqEvent.the-variants.{Gap}
 use Rattle.health.specs.Counters.{countGap}
-use Rattle.model.specs.Rules.{pendingAfter}
 use Rattle.model.specs.Hearing.{counted}
-use Rattle.outage.proofs.Reports.{reported}
+use Rattle.outage.proofs.Reports.{gap-short, gap-long}
 use borrow.Author.Needs.{needs}
 use Rattle.outage.proofs.report.report_gap.Statement.{statement}
 use Rattle.outage.proofs.report.report_gap.Tie as tie
@@ -28,19 +25,19 @@ add-missing-requires : tie.Need-add-missing-requires
 add-missing-requires c κs = search needs
 
 returns : tie.Need-returns
-unfolding pendingAfter counted
+unfolding counted
 returns c = let a = c .before .before .before .before .before .args in
-    reported (a .rate) (Gap (a .k)) (238 * a .k) (a .pending) (a .health) _ _ (c .add-missing .ensures ∙ sym (pick-t _ _ _ (was (c .before .before .below-half .ensures) (c .before .if1 .taken))))
-    (c .before .before .before .record-gap .ensures ∙ ap countGap (c .before .before .before .before .record-dropped .ensures))
+    gap-short (a .rate) (a .k) (a .pending) (a .health) _ _ _ (c .before .before .before .record-gap .ensures ∙ ap countGap (c .before .before .before .before .record-dropped .ensures))
+    (c .add-missing .ensures) (was (c .before .before .below-half .ensures) (c .before .if1 .taken)) (omega arith)
 
 add-discontinuity-requires : tie.Need-add-discontinuity-requires
 add-discontinuity-requires c κs = search needs
 
 returns-2 : tie.Need-returns-2
-unfolding pendingAfter counted
+unfolding counted
 returns-2 c = let a = c .before .before .before .before .before .args in
-    reported (a .rate) (Gap (a .k)) (238 * a .k) (a .pending) (a .health) _ _ (c .add-discontinuity .ensures ∙ sym (pick-f _ _ _ (was (c .before .before .below-half .ensures) (c .before .if1 .left))))
-    (c .before .before .before .record-gap .ensures ∙ ap countGap (c .before .before .before .before .record-dropped .ensures))
+    gap-long (a .rate) (a .k) (a .pending) (a .health) _ _ _ (c .before .before .before .record-gap .ensures ∙ ap countGap (c .before .before .before .before .record-dropped .ensures))
+    (c .add-discontinuity .ensures) (was (c .before .before .below-half .ensures) (c .before .if1 .left)) (omega arith)
 
 pub report-gap-spec : {M : Type 1} → statement M
 report-gap-spec =

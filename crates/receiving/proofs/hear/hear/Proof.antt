@@ -33,7 +33,7 @@ returns c = let a = c .before .before .before .before .before .before .before .b
     _ (c .before .before .before .before .before .before .before .judge .ensures) _ _ _
     (λ e. miss (0 ∷ 1 ∷ 3 ∷ []) 2 tt (subst (λ (x : SeqEvent). OneOf (0 ∷ 1 ∷ 3 ∷ []) (tagOf the-type x)) e (c .before .before .before .before .before .match .keys2)))
     (c .before .before .report-event .ensures) (c .accept .ensures)
-    (filled (a .datagram .now) (a .samples .now) (a .count) _ _ (sym (c .before .before .before .before .before .before .before .before .before .before .pre .0)) n (c .before .before .before .parse-iq-datagram .ensures))
+    (filled (a .datagram .now) (a .samples .now) (a .count) _ _ (sym (c .before .before .before .before .before .before .before .before .before .before .pre)) n (c .before .before .before .parse-iq-datagram .ensures))
 
 returns-2 : tie.Need-returns-2
 returns-2 c = let a = c .before .before .before .before .before .before .args in

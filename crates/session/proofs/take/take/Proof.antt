@@ -60,14 +60,10 @@ unfolding State.left
 mul-copy-out-2 c = record { fits = omega (arith, c .before .before .least .ensures, c .before .before .before .left .ensures) }
 
 copy-out-requires : tie.Need-copy-out-requires
-unfolding State.left
-copy-out-requires c κs = let p = small (c .before .before .before .before .before) in
-    let n : length (c .before .before .before .before .before .before .before .before .before .before .before .before .before .before .args .samples .now) ≡ 476 = search needs in
-    (omega (arith, p, n, c .before .before .before .least .ensures, c .before .before .before .before .left .ensures), omega (arith, c .before .before .before .least .ensures))
+copy-out-requires c κs = search needs
 
 handed-requires : tie.Need-handed-requires
-unfolding State.left
-handed-requires c κs = let p = small (c .before .before .before .before .before .before .before .before) in omega (arith, p, c .before .before .before .before .before .before .least .ensures, c .before .before .before .before .before .before .before .left .ensures)
+handed-requires c κs = search needs
 
 same-length : tie.Need-same-length
 same-length c = search needs

@@ -1,9 +1,9 @@
--- `octets::get_u32_le` reads the number of 4 octets, the least significant first, each by its weight, as one law over the width has it. Assumes nothing.
+-- `iq::get_u32_le` reads the number of 4 octets, the least significant first, each by its weight, as one law over the width has it. Assumes nothing.
 use native.Mathlib.Omega.{arith}
-use Rattle.octets.proofs.Numbers.{reads-le}
+use Rattle.iq.proofs.Turns.{reads-le}
 use borrow.Author.Needs.{needs}
-use Rattle.octets.proofs.get_u32_le.Statement.{statement}
-use Rattle.octets.proofs.get_u32_le.Tie as tie
+use Rattle.iq.proofs.get_u32_le.Statement.{statement}
+use Rattle.iq.proofs.get_u32_le.Tie as tie
 
 shared-slice-read-wide : tie.Need-shared-slice-read-wide
 shared-slice-read-wide c = search needs
