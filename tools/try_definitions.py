@@ -1,6 +1,6 @@
 #!/usr/bin/env python3
 """Changes definitions one by one (definition_changes.txt), and asks of each that something shows it: tools/try_definitions.py
-[WORD]. With WORD it tries the changes alone that have it in their first line.
+[TEXT...]. With a TEXT it tries the changes alone that have one of them in their first line.
 
 Each change is made in a copy of the repository, its code too. It is shown by
 - a proof: model or account, which hold the calls' definitions, their theorems and their worked cases, are refused; the code of
@@ -140,14 +140,14 @@ def shown(work, edits):
 
 
 def main():
-    word = sys.argv[1] if len(sys.argv) > 1 else ''
+    texts = sys.argv[1:] or ['']
     proofs = listed = missed = count = 0
     with tempfile.TemporaryDirectory() as name:
         work = Path(name)
         copied(work)
         assert shown(work, []) == (None, None), 'something is shown of the repository as it is'
         for what, edits in changes():
-            if word not in what:
+            if not any(text in what for text in texts):
                 continue
             count += 1
             try:
