@@ -2,7 +2,7 @@
 MANTA_SRC ?= $(wildcard ../shared/docs/src)
 export MANTA_SRC
 
-.PHONY: run test vectors seconds oracle compare changes bench
+.PHONY: run test vectors seconds oracle compare changes definitions bench
 # Runs a list of calls: its answers, and its account at the end. The first time, the program is proved and built.
 LIST ?= lists/first.calls
 run:
@@ -40,6 +40,12 @@ compare:
 # Changes the Rust here and there, and asks of each change that the lists of calls show it.
 changes:
 	@python3 -B oracle/try_changes.py
+
+# Changes the session's definitions here and there, with the code that follows, and asks of each change that a theorem, a worked
+# case or a list shows it. With CHANGE it tries those alone that have these words in their first line.
+CHANGE ?=
+definitions:
+	@python3 -B tools/try_definitions.py "$(CHANGE)"
 
 # Measures a datagram's parser and a session's cycles against the Rust's own.
 bench:

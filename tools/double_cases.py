@@ -282,6 +282,11 @@ def show_account(r):
 
     n = first(r, lambda: r.getrandbits(54), lambda v: account_time(v, of(1536000)) != once(v))
     of_stream('account_time', n, 1536000, f'the quotient is a double before it is time: else {once(n)}')
+    for rate, accounts in [(768000, [2**53 + 1, 2**53 + 3]), (1536000, [2**53 + 3, 2**54 + 2, 2**54 + 6])]:
+        for n in accounts:
+            other = nanoseconds(nearest(0, Fraction(n, rate)))
+            assert account_time(n, of(rate)) != other
+            of_stream('account_time', n, rate, f'the account is a double before it is divided: else {other}')
 
 
 def show_covered(r):
@@ -290,6 +295,12 @@ def show_covered(r):
 
     n = first(r, lambda: r.getrandbits(40), lambda v: other(v) != covered_time(v, of(48000)))
     of_stream('covered_time', n, 48000, f'n * (238 / rate) would give {other(n)}')
+    assert covered_time(394633349, of(48000)) == 1956723688791667
+    of_stream('covered_time', 394633349, 48000, 'n / rate * 238 would give 1956723688791666')
+    for n in [2**53 + 1, 2**53 + 3]:
+        unrounded = nanoseconds(nearest(0, Fraction(n * 238, 2**31)))
+        assert covered_time(n, of(2**31)) != unrounded
+        of_stream('covered_time', n, 2**31, f'the total is a double before it is multiplied: else {unrounded}')
 
 
 def show_below_half(r):

@@ -60,6 +60,9 @@ def elapsed_times():
     for rate in RATES:
         of_elapsed(5 * SECOND, (SECOND, rate * 3, 1), 5 * SECOND, 'three seconds of the rate', rate)
     of_elapsed(30000, (0, 1, 1), 30000, 'one sample is 20833 ns')
+    # 7812.5 ns as a fraction, but the double's seconds lie above it
+    assert elapsed(384000, 2000000001, (0, 3, 1), 2000000001) == 1999992188
+    of_elapsed(2000000001, (0, 3, 1), 2000000001, 'three samples are 7813 ns: the tie is that of the double, which is none', 384000)
     of_elapsed(MOST, (0, MOST, 1), MOST, 'the account takes more than any time')
     of_elapsed(MOST - 1, (0, MOST, 1), MOST, 'and is cut before it is subtracted')
     of_elapsed(9, (8, 0, 1), 7, 'the reading fell')

@@ -1,5 +1,6 @@
 //! Runs the cases (crates/cases/stdin) through manta's own functions. Says for each of manta's files how many lines were run
-//! and how many differ, and how many lines the Rust has no counterpart for, and why.
+//! and how many differ, and how many lines the Rust has no counterpart for, and why. Of a case that is wrong on purpose the Rust
+//! must differ from what is expected, and give what must be told.
 mod attenuator_cases;
 mod discovery_cases;
 mod double_cases;
@@ -95,6 +96,8 @@ struct Tally {
     /// The lines run and those that differ, by file.
     ran: [(u32, u32); FILES.len()],
     skipped: BTreeMap<&'static str, u32>,
+    /// Those that are wrong on purpose, and those of them of which the Rust gives something else.
+    wrong: (u32, u32),
 }
 
 impl Tally {
@@ -118,6 +121,26 @@ impl Tally {
         }
     }
 
+    /// A case that is wrong on purpose, of which `told` must be told.
+    fn wrong(&mut self, at: usize, line: &str, told: &str) {
+        let given = told.strip_prefix("gave ").filter(|w| *w != "nothing");
+        let Some(given) = given else {
+            return self.skip("wrong on purpose: a function or a line that there is not");
+        };
+        let (left, expected) = line.split_once(" = ").unwrap();
+        let (name, a, p) = split(left);
+        let came = match judged(name, &a, &p) {
+            Some((_, Number(n))) => n.to_string(),
+            Some((_, Word(w))) => w,
+            _ => panic!("line {at}: {name}: the Rust can't tell what is wrong"),
+        };
+        self.wrong.0 += 1;
+        if same(&came, expected) || !same(&came, given) {
+            self.wrong.1 += 1;
+            println!("line {at}: {name}: wrong on purpose, {told}: the Rust gives {came}");
+        }
+    }
+
     fn skip(&mut self, why: &'static str) {
         *self.skipped.entry(why).or_default() += 1;
     }
@@ -136,7 +159,11 @@ impl Tally {
             sum(|r| r.0),
             sum(|r| r.1)
         );
-        sum(|r| r.1) == 0
+        println!(
+            "{} cases that are wrong on purpose, {} judged otherwise by the Rust",
+            self.wrong.0, self.wrong.1
+        );
+        sum(|r| r.1) + self.wrong.1 == 0
     }
 }
 
@@ -144,9 +171,12 @@ impl Tally {
 pub fn run(text: &str) -> bool {
     let mut tally = Tally::default();
     for (i, line) in text.lines().enumerate() {
-        let line = line.split('#').next().unwrap().trim();
-        if !line.is_empty() {
-            tally.line(i + 1, line);
+        let (line, comment) = line.split_once('#').unwrap_or((line, ""));
+        let line = line.trim();
+        match comment.strip_prefix(" wrong: ") {
+            _ if line.is_empty() => {}
+            Some(told) => tally.wrong(i + 1, line, told),
+            None => tally.line(i + 1, line),
         }
     }
     tally.tell()
