@@ -25,7 +25,7 @@ use Rattle.model.specs.State.{State, left, waits, waitingIn, keeping}
 use Rattle.model.specs.Sample.{pairs}
 use Rattle.iq.specs.Iq as Iq
 use Rattle.model.specs.Hearing.{eventOf, restartOf, leftOut, acceptedBy}
-use Rattle.model.specs.Arrival.{withoutPackets, hear, heardAs, heardIq, overload, heardStatus, oneMore, heardMalformed, arrived, atLater, route}
+use Rattle.model.specs.Arrival.{withoutPackets, hear, heardAs, heardIq, overload, heardStatus, oneMore, heardMalformed, arrived, atLater, route, arrivalAccepted}
 use Rattle.account.specs.Whole.{countOf, ahead, behind, fits, fitsBelow, verdict}
 use Rattle.account.specs.Book.{Quiet, Came, brought, news, Book, fitIn, belowIn, limitIn, restartIn, missingIn, booked}
 use Rattle.account.specs.Ledger.{Entry, samplesOf}
@@ -248,7 +248,7 @@ module _ (s : Settings) (b : Book) (st : State) (n : ℤ) (h : Same s b st) (i :
     status-keeps (On controller) (gives []) = still s b st n h (Arrival i d) _ (quiet false) refl refl refl (h .settings) refl refl refl refl refl refl
     status-keeps (On controller) (refused k vs) = still s b st n h (Arrival i d) _ (quiet false) refl refl refl (h .settings) refl refl refl refl refl refl
     status-keeps (On controller) (gives (bits ∷ vs)) =
-        still s b st n h (Arrival i d) _ (quiet false) refl refl refl (ap (λ (c : Common). c .settings) (stepped-steady _ _ _) ∙ h .settings) refl refl refl refl refl refl
+        still s b st n h (Arrival i d) _ (quiet false) refl refl refl (ap (λ (c : Common). c .settings) (stepped-steady _ _ _ .kept) ∙ h .settings) refl refl refl refl refl refl
 
     malformed-keeps : Mute (heardMalformed (later .session) d)
     unfolding heardMalformed oneMore
@@ -283,5 +283,5 @@ module _ (s : Settings) (b : Book) (st : State) (n : ℤ) (h : Same s b st) (i :
       let z = ltb-false 0 (238 - st .session .receiver .«queue_pos») e in
       none-past (st .session .receiver .«queue_pos») (st .samples) (h .size) (omega arith)
 
-  pub arrival-keeps : waits (st .session .receiver) ≡ false → Fine (arrived later i d (route st i))
+  pub arrival-keeps : waits (st .session .receiver) ≡ false → Fine (arrivalAccepted st i d)
   arrival-keeps empty = routed-keeps (nothing-waits empty) (route st i) (ap (λ (x : Settings). found x i) (sym (h .settings)))

@@ -11,12 +11,11 @@ use Rattle.base.proofs.Picks.{pick-either}
 use Rattle.sequence.specs.declared.SeqTracker.{SeqTracker}
 use Rattle.sequence.specs.declared.Expected.the-variants.{Nothing, Next}
 use Rattle.model.specs.Sample.{Sample, pairs}
-use Rattle.model.specs.Parts.{with-common, with-last-reading}
 use Rattle.model.specs.Host.{Call, Begin, Pass, Arrival, Take, Close, TakeMissing, TakeDiscontinuity, TakeStalled, Step}
-use Rattle.model.specs.State.{State, left, waitingIn, keeping}
-use Rattle.model.specs.Begin.{begunBy, started}
-use Rattle.model.specs.Pass.{stallSoft, stallHard, passed}
-use Rattle.model.specs.Take.{handed, handOut, handable}
+use Rattle.model.specs.State.{State, left, waitingIn, atReading, keeping}
+use Rattle.model.specs.Begin.{begunBy, beginAccepted}
+use Rattle.model.specs.Pass.{stallSoft, stallHard, passed, passAccepted}
+use Rattle.model.specs.Take.{handed, handOut, takeAccepted}
 use Rattle.model.specs.Close.{stop}
 use Rattle.model.specs.Drain.{takeMissing, takeDiscontinuity, takeStalled}
 use Rattle.account.specs.Whole.{countOf}
@@ -110,7 +109,7 @@ module _ (s : Settings) where
     pub refused-keeps : (c : Call) (k : ℕ) → Held c (refusal st c k)
     refused-keeps c k = still c (refusal st c k) refl refl refl (gave-nothing c k) (h .settings) refl refl refl refl refl refl
 
-    pub begin-keeps : (now : ℕ) → HeldBy (Begin now) (started (st .session) now)
+    pub begin-keeps : (now : ℕ) → HeldBy (Begin now) (beginAccepted (st .session) now)
     unfolding begunBy waitingIn
     begin-keeps now =
         record {
@@ -125,7 +124,7 @@ module _ (s : Settings) where
 
     module _ (now : ℕ) (d : List ℕ) where
       abbrev stepped : Session
-      stepped = with-common (st .session) (with-last-reading (st .session .common) now)
+      stepped = atReading (st .session) now
 
       soft-keeps : HeldBy (Pass now d) (stallSoft stepped d)
       unfolding stallSoft
@@ -135,17 +134,17 @@ module _ (s : Settings) where
       unfolding stallHard
       hard-keeps = still (Pass now d) (keeping (st .samples) (stallHard stepped d)) refl refl refl refl (h .settings) refl refl refl refl refl refl
 
-      pub pass-keeps : HeldBy (Pass now d) (passed stepped now d)
+      pub pass-keeps : HeldBy (Pass now d) (passAccepted (st .session) now d)
       unfolding passed
       pass-keeps =
           pick-either _ _ _ (HeldBy (Pass now d)) (λ _. still (Pass now d) _ refl refl refl refl (h .settings) refl refl refl refl refl refl) λ _.
           pick-either _ _ _ (HeldBy (Pass now d)) (λ _. soft-keeps) λ _.
           pick-either _ _ _ (HeldBy (Pass now d)) (λ _. hard-keeps) λ _.
-          still (Pass now d) _ refl refl refl refl (ap (λ (c : Common). c .settings) (due-steady now _) ∙ h .settings) refl refl refl refl refl refl
+          still (Pass now d) _ refl refl refl refl (ap (λ (c : Common). c .settings) (due-steady now _ .kept) ∙ h .settings) refl refl refl refl refl refl
 
     pub close-keeps : (d : List ℕ) → HeldBy (Close d) (stop (st .session) d)
     unfolding stop
-    close-keeps d = still (Close d) (keeping (st .samples) (stop (st .session) d)) refl refl refl refl (ap (λ (c : Common). c .settings) (stop-steady (st .session .common)) ∙ h .settings) refl refl refl refl refl refl
+    close-keeps d = still (Close d) (keeping (st .samples) (stop (st .session) d)) refl refl refl refl (ap (λ (c : Common). c .settings) (stop-steady (st .session .common) .kept) ∙ h .settings) refl refl refl refl refl refl
 
     pub missing-keeps : HeldBy TakeMissing (takeMissing (st .session))
     unfolding takeMissing
@@ -159,7 +158,7 @@ module _ (s : Settings) where
     unfolding takeStalled
     stalled-keeps = still TakeStalled (keeping (st .samples) (takeStalled (st .session))) refl refl refl refl (h .settings) refl refl refl refl refl refl
 
-    pub take-keeps : (now : ℕ) (buffer : List Float) → Held (Take now buffer) (handOut st now buffer (handable st buffer))
+    pub take-keeps : (now : ℕ) (buffer : List Float) → Held (Take now buffer) (takeAccepted st now buffer)
     unfolding handOut handed left waitingIn pairs
     take-keeps now buffer =
         record {

@@ -95,7 +95,7 @@ module _ (h : InputHealthCounters) where
       pick-either _ _ _ RightBy (λ _. adds-none h _ _ e refl refl refl) λ _.
       pick-either _ _ _ RightBy (λ _. adds-none h _ _ e refl refl refl) λ _.
       pick-either _ _ _ RightBy (λ _. adds-none h _ _ e refl refl refl) λ _.
-      adds-none h _ _ (ap (λ (c : Common). c .health) (due-steady now (s .common)) ∙ e) refl refl refl
+      adds-none h _ _ (ap (λ (c : Common). c .health) (due-steady now (s .common) .kept) ∙ e) refl refl refl
 
   module _ (st : State) (e : healthOf st ≡ h) (i : Incoming) (d : List ℕ) where
     iq-adds : (count : ℕ) → Right (heardIq st i d count)
@@ -109,7 +109,7 @@ module _ (h : InputHealthCounters) where
     unfolding overload
     overload-adds Off bits = adds-none h _ _ e refl refl refl
     overload-adds (On controller) (gives []) = adds-none h _ _ e refl refl refl
-    overload-adds (On controller) (gives (bits ∷ vs)) = adds-none h _ _ (ap (λ (c : Common). c .health) (stepped-steady (i .later) _ (st .session .common)) ∙ e) refl refl refl
+    overload-adds (On controller) (gives (bits ∷ vs)) = adds-none h _ _ (ap (λ (c : Common). c .health) (stepped-steady (i .later) _ (st .session .common) .kept) ∙ e) refl refl refl
     overload-adds (On controller) (refused k vs) = adds-none h _ _ e refl refl refl
 
     broken-adds : RightBy (heardMalformed (st .session) d)
@@ -132,7 +132,7 @@ answered-adds st (Begin now) = adds-none _ _ _ refl refl refl refl
 answered-adds st (Pass now d) = passed-adds (healthOf st) (atReading (st .session) now) now d refl
 answered-adds st (Arrival i d) = arrived-adds (healthOf st) (atLater st (i .later)) refl i d (route st i)
 answered-adds st (Take now buffer) = adds-none _ _ _ refl refl refl refl
-answered-adds st (Close d) = adds-none _ _ _ (ap (λ (c : Common). c .health) (stop-steady (st .session .common))) refl refl refl
+answered-adds st (Close d) = adds-none _ _ _ (ap (λ (c : Common). c .health) (stop-steady (st .session .common) .kept)) refl refl refl
 answered-adds st TakeMissing = adds-none _ _ _ refl refl refl refl
 answered-adds st TakeDiscontinuity = adds-none _ _ _ refl refl refl refl
 answered-adds st TakeStalled = adds-none _ _ _ refl refl refl refl

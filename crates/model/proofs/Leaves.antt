@@ -22,14 +22,14 @@ use Rattle.model.specs.Sending.{send, stopPackets}
 use Rattle.model.specs.Close.{stop}
 use Rattle.model.specs.Drain.{takeMissing, takeDiscontinuity, takeStalled}
 use Rattle.model.specs.Session.{step, answered}
-use Rattle.model.specs.Leaves.{readingOf, readingAfter, byPass, byStatus, byArrival, control, changed, Leaves}
+use Rattle.model.specs.Leaves.{readingOf, readingAfter, countsAfter, byPass, byStatus, byArrival, control, changed, Leaves}
 use Rattle.model.specs.Parts.{with-last-reading, with-common}
 use Rattle.model.specs.declared.session.Attenuation.{Attenuation}
 use Rattle.model.specs.declared.session.Attenuation.the-variants.{Off, On}
 use Rattle.model.specs.declared.session.Common.{Common}
 use Rattle.model.specs.declared.session.Session.{Session}
 use Rattle.model.proofs.Refusals.{refusal, step-is, step-either}
-use Rattle.model.proofs.Sends.{due-steady, stepped-steady}
+use Rattle.model.proofs.Sends.{due-steady, stepped-steady, stop-steady}
 
 -- ---- what is answered
 
@@ -43,7 +43,7 @@ passed-leaves s now d =
     pick-either _ _ _ (Passes s now) (λ _. refl) λ _.
     pick-either _ _ _ (Passes s now) (λ _. refl) λ _.
     pick-either _ _ _ (Passes s now) (λ _. refl) λ _.
-    ap (with-common s) (due-steady now (with-last-reading (s .common) now))
+    ap (with-common s) (due-steady now (with-last-reading (s .common) now) .kept)
 
 module _ (st : State) (i : Incoming) (d : List ℕ) where
   abbrev Kept : Routed → Step State → Type 0
@@ -60,7 +60,7 @@ module _ (st : State) (i : Incoming) (d : List ℕ) where
   unfolding overload
   overload-leaves Off bits = refl
   overload-leaves (On controller) (gives []) = refl
-  overload-leaves (On controller) (gives (bits ∷ vs)) = ap (with-common (st .session)) (stepped-steady (i .later) _ (with-last-reading (st .session .common) (i .later)))
+  overload-leaves (On controller) (gives (bits ∷ vs)) = ap (with-common (st .session)) (stepped-steady (i .later) _ (with-last-reading (st .session .common) (i .later)) .kept)
   overload-leaves (On controller) (refused k vs) = refl
 
   abbrev Broken : Step Session → Type 0
@@ -133,3 +133,51 @@ reading-stored st c =
     ap (λ (x : Step State). lastOf (x .state)) (step-is st c)
     ∙ unless-map (λ (x : Step State). lastOf (x .state)) (rowsOf st c) (refusal st c) (answered st c)
     ∙ ap (unless (rowsOf st c) (λ k. lastOf st)) (ap lastOf (answered-leaves st c) ∙ changed-reads st c _)
+
+-- ---- the streams' counts: one more for each packet that the call lists
+
+abbrev Raises : {S : Type 0} → (S → List ℕ) → List ℕ → Step S → Type 0
+Raises seqOf before x = seqOf (x .state) ≡ countsAfter before (x .reply .streams)
+
+abbrev seqIn : Session → List ℕ
+seqIn s = s .common .seq
+
+abbrev seqAt : State → List ℕ
+seqAt st = seqIn (st .session)
+
+passed-raises : (s : Session) (now : ℕ) (d : List ℕ) → Raises seqIn (seqIn s) (passed s now d)
+unfolding passed stallSoft stallHard
+passed-raises s now d =
+    pick-either _ _ _ (Raises seqIn (seqIn s)) (λ _. refl) λ _.
+    pick-either _ _ _ (Raises seqIn (seqIn s)) (λ _. refl) λ _.
+    pick-either _ _ _ (Raises seqIn (seqIn s)) (λ _. refl) λ _.
+    due-steady now (s .common) .counted
+
+module _ (st : State) (i : Incoming) (d : List ℕ) where
+  overload-raises : (a : Attenuation) (bits : Told) → Raises seqIn (seqAt st) (overload (st .session) i d a bits)
+  unfolding overload
+  overload-raises Off bits = refl
+  overload-raises (On controller) (gives []) = refl
+  overload-raises (On controller) (gives (bits ∷ vs)) = stepped-steady (i .later) _ (st .session .common) .counted
+  overload-raises (On controller) (refused k vs) = refl
+
+  arrived-raises : (p : Routed) → Raises seqAt (seqAt st) (arrived st i d p)
+  unfolding arrived heardStatus heardIq heardAs hear heardMalformed oneMore
+  arrived-raises (iq count) = pick-either _ _ _ (Raises seqAt (seqAt st)) (λ _. refl) (λ _. refl)
+  arrived-raises status = overload-raises _ _
+  arrived-raises ignored = refl
+  arrived-raises malformed = pick-either _ _ _ (Raises seqIn (seqAt st)) (λ _. refl) (λ _. refl)
+
+answered-raises : (st : State) (c : Call) → Raises seqAt (seqAt st) (answered st c)
+unfolding begunBy handOut handed stop takeMissing takeDiscontinuity takeStalled
+answered-raises st (Begin now) = refl
+answered-raises st (Pass now d) = passed-raises (atReading (st .session) now) now d
+answered-raises st (Arrival i d) = arrived-raises (atLater st (i .later)) i d (route st i)
+answered-raises st (Take now buffer) = refl
+answered-raises st (Close d) = stop-steady (st .session .common) .counted
+answered-raises st TakeMissing = refl
+answered-raises st TakeDiscontinuity = refl
+answered-raises st TakeStalled = refl
+
+pub counts-rise : (st : State) (c : Call) → (step st c) .state .session .common .seq ≡ countsAfter (st .session .common .seq) ((step st c) .reply .streams)
+counts-rise st c = step-either (Raises seqAt (seqAt st)) st c (λ k. refl) (λ _. answered-raises st c)

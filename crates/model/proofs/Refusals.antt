@@ -14,11 +14,11 @@ use Rattle.base.proofs.Rows.{NoRow, unless-either, unless-map, unless-refused}
 use Rattle.base.specs.Told.{Told, gives, refused}
 use Rattle.model.specs.Routing.{Routed, iq, status, ignored, malformed}
 use Rattle.model.specs.Host.{Incoming, Call, Begin, Pass, Arrival, Take, Close, TakeMissing, TakeDiscontinuity, TakeStalled, Step}
-use Rattle.model.specs.State.{State, refuse, keeping, atReading}
+use Rattle.model.specs.State.{State, refuse, keeping}
 use Rattle.model.specs.Table.{beginRows, passRows, closeRows, rowsOf, refusalOf, refusalIn, settingsRows}
 use Rattle.model.specs.Settings.{settingsTold}
-use Rattle.model.specs.Begin.{started, begin}
-use Rattle.model.specs.Pass.{stallSoft, stallHard, passed, pass}
+use Rattle.model.specs.Begin.{beginAccepted, begin}
+use Rattle.model.specs.Pass.{stallSoft, stallHard, passed, passAccepted, pass}
 use Rattle.model.specs.Arrival.{hear, heardAs, heardIq, overload, heardStatus, heardMalformed, arrived, arrival}
 use Rattle.model.specs.Take.{handOut, takeOut}
 use Rattle.model.specs.Close.{stop, close}
@@ -40,8 +40,8 @@ refusal st c k = refuse k (lentPackets c) (lentBuffer c) st
 
 pub step-is : (st : State) (c : Call) → step st c ≡ unless (rowsOf st c) (refusal st c) (answered st c)
 unfolding step begin pass arrival takeOut close
-step-is st (Begin now) = unless-map (keeping (st .samples)) (beginRows (st .session) now) (λ k. refuse k [] [] (st .session)) (started (st .session) now)
-step-is st (Pass now d) = unless-map (keeping (st .samples)) (passRows (st .session) now d) (λ k. refuse k d [] (st .session)) (passed (atReading (st .session) now) now d)
+step-is st (Begin now) = unless-map (keeping (st .samples)) (beginRows (st .session) now) (λ k. refuse k [] [] (st .session)) (beginAccepted (st .session) now)
+step-is st (Pass now d) = unless-map (keeping (st .samples)) (passRows (st .session) now d) (λ k. refuse k d [] (st .session)) (passAccepted (st .session) now d)
 step-is st (Arrival i d) = refl
 step-is st (Take now buffer) = refl
 step-is st (Close d) = unless-map (keeping (st .samples)) (closeRows (st .session) d) (λ k. refuse k d [] (st .session)) (stop (st .session) d)

@@ -39,6 +39,13 @@ use Rattle.model.specs.declared.session.Common.{Common}
 use Rattle.sequence.specs.declared.Expected.{Expected}
 use Rattle.sequence.specs.declared.Expected.the-variants.{Nothing}
 use Rattle.model.proofs.Worked.{num, win, expectingIn}
+use Rattle.model.specs.Begin.{orAt, begunBy, begin}
+use Rattle.model.specs.State.{orZero}
+use Rattle.model.specs.Host.{Begin}
+use Rattle.model.specs.Parts.{with-reading}
+use Rattle.model.specs.Rules.{begun}
+use Rattle.model.specs.declared.receiver.Anchor.{Anchor}
+use Rattle.model.specs.declared.receiver.Anchor.the-variants.{Unset, At}
 use Rattle.model.specs.Rules.{pendingAfter}
 use Rattle.stream.specs.Elapsed.{belowHalf}
 
@@ -56,6 +63,10 @@ having f =
 -- the same out of a window, with both slots filled
 abbrev filled : State
 filled = having (λ r. with-parked (with-pending r (record { missing = Holds 5; discontinuity = Holds 9 })) (record { window = Shut }))
+
+-- no read is open, and datagrams are waited for since then
+abbrev waitingSince : Anchor → State
+waitingSince anchor = having (λ r. with-reading r (record { «wait_entered» = anchor; entered = Unset }))
 
 abbrev nextOf : Expected → ℕ
 nextOf Nothing = 0
@@ -76,6 +87,11 @@ keptCases =
     ∷ num ((leftBy (having (λ r. with-stall r (delivered (r .stall)))) (Pass 5000000000 (replicate 4452 0))) .«read_returned») 0
     -- Close leaves what waits
     ∷ num (left (leftBy (having (λ r. with-queue-pos r 0)) (Close (replicate 2888 0)))) 238
+    -- Begin: a wait anchor that is set stays, and the read takes it over; an empty one becomes the reading
+    ∷ num (orZero ((leftBy (waitingSince (At 5)) (Begin 9)) .reading .«wait_entered»)) 5
+    ∷ num (orZero ((leftBy (waitingSince (At 5)) (Begin 9)) .reading .entered)) 5
+    ∷ num (orZero ((leftBy (waitingSince Unset) (Begin 9)) .reading .«wait_entered»)) 9
+    ∷ num (orZero ((leftBy (waitingSince Unset) (Begin 9)) .reading .entered)) 9
     -- an arrival after a gap of one: what waits, the accepted time, the window, the number that is expected
     ∷ num ((leftBy (having (λ r. r)) (Arrival (iqWith 1000 2000 7 []) room)) .«queue_pos») 0
     ∷ num ((leftBy (having (λ r. r)) (Arrival (iqWith 1000 2000 7 []) room)) .«last_accepted_iq») 1000
@@ -135,7 +151,7 @@ dueCases =
 pub kept-hold : Hold keptCases
 unfolding pick newCommon step arrival arrived routed byOffset headerTold rows heardIq heardAs hear heardMalformed oneMore eventOf restartOf capped acceptedBy leftOut
     used missingOf waits left quietSince Sequence.observed Sequence.meant Sequence.less Sequence.after Sequence.zeroRestarts elapsed jumpLimit plausible natOf
-    secondsOf ofInt add sub mul div accountTime isDue pass passed stallSoft close stop pendingAfter added belowHalf lt restartMissing rounded round outage
+    secondsOf ofInt add sub mul div accountTime isDue pass passed stallSoft close stop pendingAfter added belowHalf lt restartMissing rounded round outage begin begunBy orAt begun
 kept-hold = refl
 
 pub counts-hold : Hold countCases

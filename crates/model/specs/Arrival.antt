@@ -102,6 +102,9 @@ atLater st later = record { session = atReading (st .session) later; samples = s
 abbrev pub route : State → Incoming → Routed
 route st i = routed (st .session .common .settings .«radio_ip») (st .session .common .settings .port) (i .from) (i .octets)
 
+-- where no row applies
+abbrev pub arrivalAccepted : State → Incoming → List ℕ → Step State
+arrivalAccepted st i d = arrived (atLater st (i .later)) i d (route st i)
+
 unfoldable pub arrival : State → Incoming → List ℕ → Step State
-arrival st i d =
-    unless (arrivalRows (st .session) i d) (λ k. refuse k d [] st) (arrived (atLater st (i .later)) i d (route st i))
+arrival st i d = unless (arrivalRows (st .session) i d) (λ k. refuse k d [] st) (arrivalAccepted st i d)

@@ -25,11 +25,11 @@ begunBy size r now =
     with-parked (with-reading r (record { «wait_entered» = anchor; entered = anchor }))
     (record { window = Rules.begun size (r .«read_returned») (r .parked .window) now })
 
--- the read is open
-abbrev pub started : Session → ℕ → Step Session
-started s now =
+-- where no row applies: the read is open
+abbrev pub beginAccepted : Session → ℕ → Step Session
+beginAccepted s now =
     replied (Answer.done Answer.begun) [] [] []
     (with-receiver (atReading s now) (begunBy (s .common .settings .«park_window») (s .receiver) now))
 
 unfoldable pub begin : Session → ℕ → Step Session
-begin s now = unless (beginRows s now) (λ k. refuse k [] [] s) (started s now)
+begin s now = unless (beginRows s now) (λ k. refuse k [] [] s) (beginAccepted s now)

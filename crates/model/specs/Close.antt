@@ -12,7 +12,7 @@ use Rattle.model.specs.Sending.{stopPackets}
 use Rattle.model.specs.Parts.{with-common, with-closed}
 use Rattle.model.specs.declared.session.Session.{Session}
 
--- nothing else changes: the queue, the slots and the stall flag stay, and no clock moves
+-- where no row applies. Nothing else changes: the queue, the slots and the stall flag stay, and no clock moves
 unfoldable pub stop : Session → List ℕ → Step Session
 stop s d =
     let out = stopPackets (s .common) in

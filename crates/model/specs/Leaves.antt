@@ -3,12 +3,14 @@
 use Prim.Native.Nat.{ℕ}
 use mathlib.Core.Bool.{true}
 use mathlib.Core.Path.{_≡_}
+use mathlib.Core.List.{List, [], _∷_}
 use Rattle.base.specs.Rows.{unless}
 use Rattle.stall.specs.Episode.{delivered, taken}
 use Rattle.model.specs.Host.{Call, Begin, Pass, Arrival, Take, Close, TakeMissing, TakeDiscontinuity, TakeStalled}
 use Rattle.model.specs.State.{State, atReading}
 use Rattle.model.specs.Table.{rowsOf}
 use Rattle.model.specs.Routing.{Routed, iq, status, ignored, malformed}
+use Rattle.model.specs.Sending.{raised}
 use Rattle.model.specs.Arrival.{route}
 use Rattle.model.specs.Pass.{shut}
 use Rattle.model.specs.Parts.{with-wait-entered, with-entered, with-missing, with-discontinuity, with-queue-pos, with-reading, with-parked, with-pending, with-read-returned, with-stall, with-seq, with-clocks, with-attenuator, with-health, with-consecutive-malformed, with-last-reading, with-closed, with-common, with-receiver}
@@ -37,6 +39,11 @@ readingAfter st c =
     unless (rowsOf st c) (λ k. st .session .common .«last_reading») (readingOf (st .session .common .«last_reading») c)
 
 -- ---- the other parts: `t` is what stands after the call
+
+-- a stream's count rises by one, modulo 2^32, for each packet of it that is listed, and the others stay
+abbrev pub countsAfter : List ℕ → List ℕ → List ℕ
+countsAfter counts [] = counts
+countsAfter counts (k ∷ ks) = countsAfter (raised counts k) ks
 
 -- packets move counts and clocks, and a step the attenuator
 abbrev pub sentFrom : Common → Common → Common

@@ -36,6 +36,9 @@ passed s now d =
     (pick (leb (s .common .settings .«stall_after») (now - quietSince (s .receiver))) (stallHard s d)
     (wrote (done sent) s d (duePackets now (s .common)))))
 
+-- where no row applies
+abbrev pub passAccepted : Session → ℕ → List ℕ → Step Session
+passAccepted s now d = passed (atReading s now) now d
+
 unfoldable pub pass : Session → ℕ → List ℕ → Step Session
-pass s now d =
-    unless (passRows s now d) (λ k. refuse k d [] s) (passed (atReading s now) now d)
+pass s now d = unless (passRows s now d) (λ k. refuse k d [] s) (passAccepted s now d)

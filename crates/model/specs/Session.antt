@@ -3,12 +3,12 @@ use Prim.Native.Nat.{ℕ}
 use lib.Ieee.{Float}
 use mathlib.Core.List.{List}
 use Rattle.model.specs.Host.{Call, Begin, Pass, Arrival, Take, Close, TakeMissing, TakeDiscontinuity, TakeStalled, Step, Host}
-use Rattle.model.specs.State.{State, waitingIn, atReading, keeping}
+use Rattle.model.specs.State.{State, waitingIn, keeping}
 use Rattle.model.specs.Open.{opened}
-use Rattle.model.specs.Begin.{started, begin}
-use Rattle.model.specs.Pass.{passed, pass}
-use Rattle.model.specs.Arrival.{arrived, atLater, route, arrival}
-use Rattle.model.specs.Take.{handOut, handable, takeOut}
+use Rattle.model.specs.Begin.{beginAccepted, begin}
+use Rattle.model.specs.Pass.{passAccepted, pass}
+use Rattle.model.specs.Arrival.{arrivalAccepted, arrival}
+use Rattle.model.specs.Take.{takeAccepted, takeOut}
 use Rattle.model.specs.Close.{stop, close}
 use Rattle.model.specs.Drain.{takeMissing, takeDiscontinuity, takeStalled}
 use Rattle.model.specs.declared.settings.Settings.{Settings}
@@ -25,10 +25,10 @@ step st TakeStalled = keeping (st .samples) (takeStalled (st .session))
 
 -- what a call gives where no row of 01's table applies to it
 abbrev pub answered : State → Call → Step State
-answered st (Begin now) = keeping (st .samples) (started (st .session) now)
-answered st (Pass now packets) = keeping (st .samples) (passed (atReading (st .session) now) now packets)
-answered st (Arrival incoming packets) = arrived (atLater st (incoming .later)) incoming packets (route st incoming)
-answered st (Take now buffer) = handOut st now buffer (handable st buffer)
+answered st (Begin now) = keeping (st .samples) (beginAccepted (st .session) now)
+answered st (Pass now packets) = keeping (st .samples) (passAccepted (st .session) now packets)
+answered st (Arrival incoming packets) = arrivalAccepted st incoming packets
+answered st (Take now buffer) = takeAccepted st now buffer
 answered st (Close packets) = keeping (st .samples) (stop (st .session) packets)
 answered st TakeMissing = keeping (st .samples) (takeMissing (st .session))
 answered st TakeDiscontinuity = keeping (st .samples) (takeDiscontinuity (st .session))

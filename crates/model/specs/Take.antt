@@ -33,6 +33,9 @@ handOut st now buffer n =
 abbrev pub handable : State → List Float → ℕ
 handable st buffer = min (length buffer / 2) (left (st .session .receiver))
 
+-- where no row applies
+abbrev pub takeAccepted : State → ℕ → List Float → Step State
+takeAccepted st now buffer = handOut st now buffer (handable st buffer)
+
 unfoldable pub takeOut : State → ℕ → List Float → Step State
-takeOut st now buffer =
-    unless (takeRows (st .session) now buffer) (λ k. refuse k [] buffer st) (handOut st now buffer (handable st buffer))
+takeOut st now buffer = unless (takeRows (st .session) now buffer) (λ k. refuse k [] buffer st) (takeAccepted st now buffer)
