@@ -32,19 +32,19 @@ unfolding pick
 if-sends true c out listed moved h = h
 if-sends false c out listed moved h = record { streams = refl; clocks = refl; attenuator = refl }
 
+joined : {a b x y : List ℕ} → a ≡ b → x ≡ y → a ++ x ≡ b ++ y
+joined p q = cc
+
 -- then others, whose streams and clocks go by the clocks
 then-sends : (c : Common) (out : Sending) (f : Common → Sending) (listed : List ℕ) (moved : Clocks) (streams : Clocks → List ℕ) (clocks : Clocks → Clocks) →
     Sends c out listed moved → ((d : Common) → Sends d (f d) (streams (d .clocks)) (clocks (d .clocks))) → Sends c (then out f) (listed ++ streams moved) (clocks moved)
 then-sends c out f listed moved streams clocks h k =
     let g = k (out .common) in
     record {
-      streams = joined (out .streams) listed (f (out .common) .streams) (streams moved) (h .streams) (g .streams ∙ ap streams (h .clocks));
+      streams = joined (h .streams) (g .streams ∙ ap streams (h .clocks));
       clocks = g .clocks ∙ ap clocks (h .clocks);
       attenuator = g .attenuator ∙ h .attenuator;
     }
-  where
-    joined : (a b x y : List ℕ) → a ≡ b → x ≡ y → a ++ x ≡ b ++ y
-    joined a b x y p q = cc
 
 module _ (now : ℕ) where
   -- ---- the keepalives, as functions of the clocks
@@ -155,13 +155,10 @@ module _ (now : ℕ) where
       let a = ap (λ (x : Attenuator). x .attenuation) (k .attenuator) in
       let t = tick-steps (d .attenuator .attenuation) d refl in
       record {
-        streams = joined _ _ _ _ (k .streams) (t .streams ∙ ap (λ (x : Attenuation). stepStreams (ticking x now)) a);
+        streams = joined (k .streams) (t .streams ∙ ap (λ (x : Attenuation). stepStreams (ticking x now)) a);
         clocks = t .clocks ∙ both _ _ _ _ (k .clocks) a;
         attenuation = t .attenuation ∙ ap (λ (x : Attenuation). ticking x now .attenuation) a;
       }
     where
-      joined : (a b x y : List ℕ) → a ≡ b → x ≡ y → a ++ x ≡ b ++ y
-      joined a b x y p q = cc
-
       both : (k l : Clocks) (x y : Attenuation) → k ≡ l → x ≡ y → stepClocks k (ticking x now) now ≡ stepClocks l (ticking y now) now
       both k l x y p q = rw (p, q) refl

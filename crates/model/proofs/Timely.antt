@@ -65,6 +65,9 @@ abbrev sendingWatch : Watch → Clocks → Attenuation → Watch
 sendingWatch w k x =
     record { clocks = k; attenuation = x; valid = w .valid; wait = w .wait; anchor = w .anchor; delivering = w .delivering; waiting = w .waiting }
 
+sending-same : (w : Watch) {k l : Clocks} {x y : Attenuation} → k ≡ l → x ≡ y → sendingWatch w k x ≡ sendingWatch w l y
+sending-same w p q = rw (p, q) refl
+
 abbrev Anchored : ℕ → State → Type 0
 Anchored anchor st = isOpen (st .session .receiver) ≡ true → orZero (st .session .receiver .reading .entered) ≡ anchor
 
@@ -165,9 +168,6 @@ module _ (st : State) (a : ℕ) (h : Anchored a st) where
     abbrev Passes : Step Session → Type 0
     Passes x = Fine set w (Pass now d) (keeping (st .samples) x)
 
-    sent-watch : (k l : Clocks) (x y : Attenuation) → k ≡ l → x ≡ y → sendingWatch w k x ≡ sendingWatch w l y
-    sent-watch k l x y p q = rw (p, q) refl
-
     pass-fine : Passes (passed at now d)
     unfolding passed stallSoft stallHard left pick
     pass-fine =
@@ -201,7 +201,7 @@ module _ (st : State) (a : ℕ) (h : Anchored a st) where
         let due = due-is now (at .common) in
         record {
           anchor = a;
-          next = is-sent _ _ _ _ e f g ∙ sent-watch _ _ _ _ (sym (due .clocks)) (sym (due .attenuation));
+          next = is-sent _ _ _ _ e f g ∙ sending-same w (sym (due .clocks)) (sym (due .attenuation));
           anchored = h;
           ontime = record { lists = due .streams ∙ sym (is-sent _ _ _ _ e f g); right = λ _. ap done (sym (is-sent _ _ _ _ e f g)) };
         }
@@ -230,9 +230,6 @@ module _ (st : State) (a : ℕ) (h : Anchored a st) where
         (λ e. record { given = refl; next = ap heardWatch (pick-t _ _ _ e); anchored = h; lists = refl })
         (λ e. record { given = refl; next = ap heardWatch (pick-f _ _ _ e); anchored = h; lists = refl })
 
-    status-next : (k l : Clocks) (x y : Attenuation) → k ≡ l → x ≡ y → sendingWatch w k x ≡ sendingWatch w l y
-    status-next k l x y p q = rw (p, q) refl
-
     -- what a status packet gave, the attenuator being this
     record Heard (attenuation : Attenuation) (bits : Told) (x : Step Session) : Type 0 where
       pub next : sendingWatch w (stepClocks (w .clocks) (hearing attenuation bits (i .now)) (i .later)) (hearing attenuation bits (i .now) .attenuation) ≡ watchOf a (keeping (st .samples) x .state)
@@ -246,7 +243,7 @@ module _ (st : State) (a : ℕ) (h : Anchored a st) where
     overload-fine (On controller) (gives []) e = record { next = ap (sendingWatch w (w .clocks)) (sym e); anchored = h; lists = refl; given = refl }
     overload-fine (On controller) (gives (bits ∷ vs)) e =
         let made = stepped-steps (i .later) (Controller.observed controller (overloaded bits) (i .now)) (then .session .common) in
-        record { next = status-next _ _ _ _ (sym (made .clocks)) (sym (made .attenuation)); anchored = h; lists = made .streams; given = refl }
+        record { next = sending-same w (sym (made .clocks)) (sym (made .attenuation)); anchored = h; lists = made .streams; given = refl }
     overload-fine (On controller) (refused k vs) e = record { next = ap (sendingWatch w (w .clocks)) (sym e); anchored = h; lists = refl; given = refl }
 
     status-fine : FineAt status (keeping (st .samples) (heardStatus (then .session) i d))
