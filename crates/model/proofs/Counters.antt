@@ -109,7 +109,7 @@ module _ (h : InputHealthCounters) where
     unfolding overload
     overload-adds Off bits = adds-none h _ _ e refl refl refl
     overload-adds (On controller) (gives []) = adds-none h _ _ e refl refl refl
-    overload-adds (On controller) (gives (bits ∷ vs)) = adds-none h _ _ (ap (λ (c : Common). c .health) (stepped-steady (i .later) _ (st .session .common) .kept) ∙ e) refl refl refl
+    overload-adds (On controller) (gives (bits ∷ vs)) = adds-none h _ _ (ap (λ (c : Common). c .health) (stepped-steady (i .later) _ _ .kept) ∙ e) refl refl refl
     overload-adds (On controller) (refused k vs) = adds-none h _ _ e refl refl refl
 
     broken-adds : RightBy (heardMalformed (st .session) d)

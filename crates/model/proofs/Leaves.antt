@@ -22,8 +22,8 @@ use Rattle.model.specs.Sending.{send, stopPackets}
 use Rattle.model.specs.Close.{stop}
 use Rattle.model.specs.Drain.{takeMissing, takeDiscontinuity, takeStalled}
 use Rattle.model.specs.Session.{step, answered}
-use Rattle.model.specs.Leaves.{readingOf, readingAfter, countsAfter, byPass, byStatus, byArrival, control, changed, Leaves}
-use Rattle.model.specs.Parts.{with-last-reading, with-common}
+use Rattle.model.specs.Leaves.{readingOf, readingAfter, stored, countsAfter, byPass, byStatus, byArrival, control, changed, Leaves}
+use Rattle.model.specs.Parts.{with-common}
 use Rattle.model.specs.declared.session.Attenuation.{Attenuation}
 use Rattle.model.specs.declared.session.Attenuation.the-variants.{Off, On}
 use Rattle.model.specs.declared.session.Common.{Common}
@@ -33,55 +33,52 @@ use Rattle.model.proofs.Sends.{due-steady, stepped-steady, stop-steady}
 
 -- ---- what is answered
 
--- a session whose last reading was stored
-abbrev Passes : Session → ℕ → Step Session → Type 0
-Passes s now x = x .state ≡ byPass s now (x .state)
+-- of a session whose last reading was stored
+abbrev Passes : Session → Step Session → Type 0
+Passes s x = x .state ≡ byPass s (x .state)
 
-passed-leaves : (s : Session) (now : ℕ) (d : List ℕ) → Passes s now (passed (atReading s now) now d)
+passed-leaves : (s : Session) (now : ℕ) (d : List ℕ) → Passes s (passed s now d)
 unfolding passed stallSoft stallHard
 passed-leaves s now d =
-    pick-either _ _ _ (Passes s now) (λ _. refl) λ _.
-    pick-either _ _ _ (Passes s now) (λ _. refl) λ _.
-    pick-either _ _ _ (Passes s now) (λ _. refl) λ _.
-    ap (with-common s) (due-steady now (with-last-reading (s .common) now) .kept)
+    pick-either _ _ _ (Passes s) (λ _. refl) λ _.
+    pick-either _ _ _ (Passes s) (λ _. refl) λ _.
+    pick-either _ _ _ (Passes s) (λ _. refl) λ _.
+    ap (with-common s) (due-steady now (s .common) .kept)
 
 module _ (st : State) (i : Incoming) (d : List ℕ) where
   abbrev Kept : Routed → Step State → Type 0
-  Kept p x = x .state ≡ byArrival st (i .later) p (x .state)
+  Kept p x = x .state ≡ byArrival st p (x .state)
 
-  iq-leaves : (count : ℕ) → Kept (iq count) (heardIq (atLater st (i .later)) i d count)
+  iq-leaves : (count : ℕ) → Kept (iq count) (heardIq st i d count)
   unfolding heardIq heardAs hear leftOut acceptedBy
   iq-leaves count = pick-either _ _ _ (Kept (iq count)) (λ _. refl) (λ _. refl)
 
   abbrev HeardStatus : Step Session → Type 0
-  HeardStatus x = x .state ≡ byStatus (st .session) (i .later) (x .state)
+  HeardStatus x = x .state ≡ byStatus (st .session) (x .state)
 
-  overload-leaves : (a : Attenuation) (bits : Told) → HeardStatus (overload (atReading (st .session) (i .later)) i d a bits)
+  overload-leaves : (a : Attenuation) (bits : Told) → HeardStatus (overload (st .session) i d a bits)
   unfolding overload
   overload-leaves Off bits = refl
   overload-leaves (On controller) (gives []) = refl
-  overload-leaves (On controller) (gives (bits ∷ vs)) = ap (with-common (st .session)) (stepped-steady (i .later) _ (with-last-reading (st .session .common) (i .later)) .kept)
+  overload-leaves (On controller) (gives (bits ∷ vs)) = ap (with-common (st .session)) (stepped-steady (i .later) _ _ .kept)
   overload-leaves (On controller) (refused k vs) = refl
 
   abbrev Broken : Step Session → Type 0
   Broken x = Kept malformed (keeping (st .samples) x)
 
-  abbrev after : Session
-  after = atReading (st .session) (i .later)
-
-  given-up-leaves : Broken (givenUp after d)
+  given-up-leaves : Broken (givenUp (st .session) d)
   unfolding oneMore
   given-up-leaves = refl
 
-  discarded-leaves : Broken (discarded after d)
+  discarded-leaves : Broken (discarded (st .session) d)
   unfolding oneMore
   discarded-leaves = refl
 
-  malformed-leaves : Broken (heardMalformed after d)
+  malformed-leaves : Broken (heardMalformed (st .session) d)
   unfolding heardMalformed
-  malformed-leaves = pick-either _ (givenUp after d) (discarded after d) Broken (λ _. given-up-leaves) (λ _. discarded-leaves)
+  malformed-leaves = pick-either _ (givenUp (st .session) d) (discarded (st .session) d) Broken (λ _. given-up-leaves) (λ _. discarded-leaves)
 
-  arrived-leaves : (p : Routed) → Kept p (arrived (atLater st (i .later)) i d p)
+  arrived-leaves : (p : Routed) → Kept p (arrived st i d p)
   unfolding arrived heardStatus
   arrived-leaves (iq count) = iq-leaves count
   arrived-leaves status = ap (control st) (overload-leaves _ _)
@@ -91,8 +88,8 @@ module _ (st : State) (i : Incoming) (d : List ℕ) where
 pub answered-leaves : (st : State) (c : Call) → Leaves st c ((answered st c) .state)
 unfolding begunBy handOut handed stop stopPackets send takeMissing takeDiscontinuity takeStalled
 answered-leaves st (Begin now) = refl
-answered-leaves st (Pass now d) = ap (control st) (passed-leaves (st .session) now d)
-answered-leaves st (Arrival i d) = arrived-leaves st i d (route st i)
+answered-leaves st (Pass now d) = ap (control st) (passed-leaves (stored st (Pass now d) .session) now d)
+answered-leaves st (Arrival i d) = arrived-leaves (stored st (Arrival i d)) i d (route st i)
 answered-leaves st (Take now buffer) = refl
 answered-leaves st (Close d) = refl
 answered-leaves st TakeMissing = refl
@@ -108,11 +105,11 @@ leaves st c =
     (λ k e. let z : _≡_ {A = ℕ} 0 1 = cc in absurd (omega arith))
     (λ _ e. answered-leaves st c)
 
-route-reads : (st t : State) (later : ℕ) (p : Routed) → (byArrival st later p t) .session .common .«last_reading» ≡ later
-route-reads st t later (iq count) = refl
-route-reads st t later status = refl
-route-reads st t later ignored = refl
-route-reads st t later malformed = refl
+route-reads : (st t : State) (p : Routed) → (byArrival st p t) .session .common .«last_reading» ≡ st .session .common .«last_reading»
+route-reads st t (iq count) = refl
+route-reads st t status = refl
+route-reads st t ignored = refl
+route-reads st t malformed = refl
 
 abbrev lastOf : State → ℕ
 lastOf st = st .session .common .«last_reading»
@@ -120,7 +117,7 @@ lastOf st = st .session .common .«last_reading»
 changed-reads : (st : State) (c : Call) (t : State) → lastOf (changed st c t) ≡ readingOf (lastOf st) c
 changed-reads st (Begin now) t = refl
 changed-reads st (Pass now d) t = refl
-changed-reads st (Arrival i d) t = route-reads st t (i .later) (route st i)
+changed-reads st (Arrival i d) t = route-reads (stored st (Arrival i d)) t (route st i)
 changed-reads st (Take now buffer) t = refl
 changed-reads st (Close d) t = refl
 changed-reads st TakeMissing t = refl

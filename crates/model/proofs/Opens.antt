@@ -27,7 +27,7 @@ use Rattle.model.specs.Open.{tuned, newCommon, newReceiver, newSession, 
 use Rattle.model.specs.Drain.{takeMissing, takeDiscontinuity, takeStalled}
 use Rattle.model.specs.Session.{step, openedWith, session}
 use Rattle.model.specs.Refusals.{isDrain}
-use Rattle.model.specs.Leaves.{byArrival, changed, Fixed}
+use Rattle.model.specs.Leaves.{stored, byArrival, changed, Fixed}
 use Rattle.model.specs.Answer.{tells}
 use Rattle.model.specs.declared.session.Session.{Session}
 use Rattle.model.specs.declared.session.Tuning.{Tuning}
@@ -96,16 +96,16 @@ module _ (samples : List Float) (s : Settings) (now : ℕ) (refused : accepts s 
 
 -- ---- what stays
 
-fixed-route : (st t : State) (later : ℕ) (p : Routed) → Fixed st (byArrival st later p t)
-fixed-route st t later (iq count) = record { settings = refl; tuning = refl }
-fixed-route st t later status = record { settings = refl; tuning = refl }
-fixed-route st t later ignored = record { settings = refl; tuning = refl }
-fixed-route st t later malformed = record { settings = refl; tuning = refl }
+fixed-route : (st at t : State) (p : Routed) → Fixed st at → Fixed st (byArrival at p t)
+fixed-route st at t (iq count) h = record { settings = h .settings; tuning = h .tuning }
+fixed-route st at t status h = record { settings = h .settings; tuning = h .tuning }
+fixed-route st at t ignored h = record { settings = h .settings; tuning = h .tuning }
+fixed-route st at t malformed h = record { settings = h .settings; tuning = h .tuning }
 
 fixed-changed : (st : State) (c : Call) (t : State) → Fixed st (changed st c t)
 fixed-changed st (Begin now) t = record { settings = refl; tuning = refl }
 fixed-changed st (Pass now d) t = record { settings = refl; tuning = refl }
-fixed-changed st (Arrival i d) t = fixed-route st t (i .later) (route st i)
+fixed-changed st (Arrival i d) t = fixed-route st (stored st (Arrival i d)) t (route st i) (record { settings = refl; tuning = refl })
 fixed-changed st (Take now buffer) t = record { settings = refl; tuning = refl }
 fixed-changed st (Close d) t = record { settings = refl; tuning = refl }
 fixed-changed st TakeMissing t = record { settings = refl; tuning = refl }

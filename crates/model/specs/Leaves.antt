@@ -13,7 +13,7 @@ use Rattle.model.specs.Routing.{Routed, iq, status, ignored, malformed}
 use Rattle.model.specs.Sending.{raised}
 use Rattle.model.specs.Arrival.{route}
 use Rattle.model.specs.Pass.{shut}
-use Rattle.model.specs.Parts.{with-wait-entered, with-entered, with-missing, with-discontinuity, with-queue-pos, with-reading, with-parked, with-pending, with-read-returned, with-stall, with-seq, with-clocks, with-attenuator, with-health, with-consecutive-malformed, with-last-reading, with-closed, with-common, with-receiver}
+use Rattle.model.specs.Parts.{with-wait-entered, with-entered, with-missing, with-discontinuity, with-queue-pos, with-reading, with-parked, with-pending, with-read-returned, with-stall, with-seq, with-clocks, with-attenuator, with-health, with-consecutive-malformed, with-closed, with-common, with-receiver}
 use Rattle.model.specs.declared.receiver.Anchor.the-variants.{Unset}
 use Rattle.model.specs.declared.receiver.Slot.the-variants.{Empty}
 use Rattle.model.specs.declared.receiver.Receiver.{Receiver}
@@ -38,7 +38,11 @@ abbrev pub readingAfter : State → Call → ℕ
 readingAfter st c =
     unless (rowsOf st c) (λ k. st .session .common .«last_reading») (readingOf (st .session .common .«last_reading») c)
 
--- ---- the other parts: `t` is what stands after the call
+-- the state in which it is stored
+abbrev pub stored : State → Call → State
+stored st c = record { session = atReading (st .session) (readingOf (st .session .common .«last_reading») c); samples = st .samples }
+
+-- ---- the other parts: `s` is the session with its reading stored, `t` what stands after the call
 
 -- a stream's count rises by one, modulo 2^32, for each packet of it that is listed, and the others stay
 abbrev pub countsAfter : List ℕ → List ℕ → List ℕ
@@ -54,36 +58,36 @@ abbrev pub enteredAs : Receiver → Receiver → Receiver
 enteredAs r t = with-reading r (with-entered (r .reading) (t .reading .entered))
 
 -- both anchors and the window
-abbrev pub byBegin : Session → ℕ → Session → Session
-byBegin s now t = with-receiver (atReading s now) (with-parked (with-reading (s .receiver) (t .receiver .reading)) (t .receiver .parked))
+abbrev pub byBegin : Session → Session → Session
+byBegin s t = with-receiver s (with-parked (with-reading (s .receiver) (t .receiver .reading)) (t .receiver .parked))
 
 -- packets; the read's own anchor, delivering and the stall flag
-abbrev pub byPass : Session → ℕ → Session → Session
-byPass s now t =
+abbrev pub byPass : Session → Session → Session
+byPass s t =
     record {
-      common = sentFrom (with-last-reading (s .common) now) (t .common);
+      common = sentFrom (s .common) (t .common);
       receiver = with-stall (enteredAs (s .receiver) (t .receiver)) (t .receiver .stall);
     }
 
 -- valid I/Q: all of a receiver but its read's own anchor, the Take's time, delivering and the stall flag, and its wait anchor is
 -- empty; the counts; the malformed run is 0
-abbrev pub byIq : Session → ℕ → Session → Session
-byIq s later t =
+abbrev pub byIq : Session → Session → Session
+byIq s t =
     let r = s .receiver in
     record {
-      common = with-consecutive-malformed (with-health (with-last-reading (s .common) later) (t .common .health)) 0;
+      common = with-consecutive-malformed (with-health (s .common) (t .common .health)) 0;
       receiver = with-reading (with-stall (with-read-returned (t .receiver) (r .«read_returned»)) (r .stall)) (with-wait-entered (r .reading) Unset);
     }
 
 -- a status packet: packets
-abbrev pub byStatus : Session → ℕ → Session → Session
-byStatus s later t = with-common s (sentFrom (with-last-reading (s .common) later) (t .common))
+abbrev pub byStatus : Session → Session → Session
+byStatus s t = with-common s (sentFrom (s .common) (t .common))
 
 -- a malformed datagram: the counts, the malformed run and the read's own anchor
-abbrev pub byMalformed : Session → ℕ → Session → Session
-byMalformed s later t =
+abbrev pub byMalformed : Session → Session → Session
+byMalformed s t =
     record {
-      common = with-consecutive-malformed (with-health (with-last-reading (s .common) later) (t .common .health)) (t .common .«consecutive_malformed»);
+      common = with-consecutive-malformed (with-health (s .common) (t .common .health)) (t .common .«consecutive_malformed»);
       receiver = enteredAs (s .receiver) (t .receiver);
     }
 
@@ -91,8 +95,7 @@ byMalformed s later t =
 abbrev pub byTake : Session → ℕ → Session → Session
 byTake s now t =
     let r = s .receiver in
-    with-receiver (atReading s now)
-    (with-stall (with-read-returned (with-queue-pos (shut r) (t .receiver .«queue_pos»)) now) (delivered (r .stall)))
+    with-receiver s (with-stall (with-read-returned (with-queue-pos (shut r) (t .receiver .«queue_pos»)) now) (delivered (r .stall)))
 
 -- the counts of the streams, and that it is closed
 abbrev pub byClose : Session → Session → Session
@@ -102,28 +105,31 @@ byClose s t = with-common s (with-closed (with-seq (s .common) (t .common .seq))
 abbrev pub control : State → Session → State
 control st s = record { session = s; samples = st .samples }
 
--- valid I/Q brings samples; one that is ignored changes the reading alone
-abbrev pub byArrival : State → ℕ → Routed → State → State
-byArrival st later (iq count) t = record { session = byIq (st .session) later (t .session); samples = t .samples }
-byArrival st later status t = control st (byStatus (st .session) later (t .session))
-byArrival st later ignored t = control st (atReading (st .session) later)
-byArrival st later malformed t = control st (byMalformed (st .session) later (t .session))
+-- valid I/Q brings samples; one that is ignored changes nothing more
+abbrev pub byArrival : State → Routed → State → State
+byArrival st (iq count) t = record { session = byIq (st .session) (t .session); samples = t .samples }
+byArrival st status t = control st (byStatus (st .session) (t .session))
+byArrival st ignored t = st
+byArrival st malformed t = control st (byMalformed (st .session) (t .session))
 
-abbrev pub changed : State → Call → State → State
-changed st (Begin now) t = control st (byBegin (st .session) now (t .session))
-changed st (Pass now packets) t = control st (byPass (st .session) now (t .session))
-changed st (Arrival i packets) t = byArrival st (i .later) (route st i) t
-changed st (Take now buffer) t = control st (byTake (st .session) now (t .session))
-changed st (Close packets) t = control st (byClose (st .session) (t .session))
-changed st TakeMissing t =
+abbrev pub byCall : State → Call → State → State
+byCall st (Begin now) t = control st (byBegin (st .session) (t .session))
+byCall st (Pass now packets) t = control st (byPass (st .session) (t .session))
+byCall st (Arrival i packets) t = byArrival st (route st i) t
+byCall st (Take now buffer) t = control st (byTake (st .session) now (t .session))
+byCall st (Close packets) t = control st (byClose (st .session) (t .session))
+byCall st TakeMissing t =
     let r = st .session .receiver in
     control st (with-receiver (st .session) (with-pending r (with-missing (r .pending) Empty)))
-changed st TakeDiscontinuity t =
+byCall st TakeDiscontinuity t =
     let r = st .session .receiver in
     control st (with-receiver (st .session) (with-pending r (with-discontinuity (r .pending) Empty)))
-changed st TakeStalled t =
+byCall st TakeStalled t =
     let r = st .session .receiver in
     control st (with-receiver (st .session) (with-stall r (taken (r .stall) .episode)))
+
+abbrev pub changed : State → Call → State → State
+changed st c t = byCall (stored st c) c t
 
 -- nothing but that changed
 abbrev pub Leaves : State → Call → State → Type 0
