@@ -143,7 +143,7 @@ pub record Fit (c : List ℕ) : Type 0 where
   pub waiting : getD c 6 0 ≤ mostNumbers
   pub places : getD c 7 0 ≤ 8192
 
--- a call's, or what else after any other answer
+-- what a buffer holds after an answer: a call's, or the other
 abbrev pub onCall : {A : Type 0} → Read → A → A → A
 onCall Read.Call new other = new
 onCall Read.Nothing new other = other
@@ -151,7 +151,7 @@ onCall Read.Open new other = other
 onCall Read.State new other = other
 onCall (Read.Unread e) new other = other
 
--- the lent numbers where the reading ended of the words of a call's name: its options are read once its form is
+-- the lent numbers where the reading of a call's words ended: options are read where every word of the form is
 unfoldable pub namedSeen : ℕ → List (List ℕ) → List ℕ → List ℕ
 namedSeen name ws n =
     pick (eqb (unread (form name) ws) allRead)
@@ -186,7 +186,7 @@ lineOctets line d =
 abbrev pub lineNumbers : List ℕ → List ℕ → List ℕ
 lineNumbers line n = optionsNumbers n (optionsOf (nameOf (wordsOf line)) (after (wordsOf line)))
 
--- what f makes of a call's name and its words, or z where the line has none: it is too long, has no words, or is no call's or an `open`
+-- what f makes of a call's name and the words after it; z of a line that is too long, has no words, is an `open` or names no call
 unfoldable pub ofNamed : (ℕ → List (List ℕ) → List ℕ) → List ℕ → List (List ℕ) → List ℕ
 ofNamed f z [] = z
 ofNamed f z (w ∷ ws) =
@@ -197,15 +197,15 @@ ofNamed f z (w ∷ ws) =
 unfoldable pub ofLine : (ℕ → List (List ℕ) → List ℕ) → List ℕ → List ℕ → List ℕ
 ofLine f z line = pick (ltb longest (length line)) z (ofNamed f z (wordsOf line))
 
--- octets and numbers are written as they are read: what they hold where the reading of the line ended, of which no call was made
+-- the lent octets and numbers after a line of which no call was made: what was written before the reading stopped
 abbrev pub octetsLeft : List ℕ → List ℕ → List ℕ
 octetsLeft line d = ofLine (λ name ws. argumentsSeen (form name) ws d) d line
 
 abbrev pub numbersLeft : List ℕ → List ℕ → List ℕ
 numbersLeft line n = ofLine (λ name ws. namedSeen name ws n) n line
 
--- the line was read as r, and the lent buffers, which were b, d and n, are then c, e and m: after a call they are the call's, and
--- after any other answer the call is as it was, and the octets and the numbers are what the reading left
+-- the line was read as r, and the lent buffers, which were b, d and n, are then c, e and m: after a call all three are the call's; after
+-- any other answer the eight numbers are as they were, and octets and numbers are as the reading left them
 pub record Lent (line : List ℕ) (ip port : ℕ) (b d n : List ℕ) (r : Read) (c e m : List ℕ) : Type 0 where
   pub told : r ≡ readLine line
   pub call : c ≡ onCall r (lineCall line ip port) b
