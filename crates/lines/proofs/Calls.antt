@@ -1,6 +1,6 @@
 -- A call by its name, and a line: what each way through gives. Assumes nothing.
 use mathlib.Core.Path.{_≡_, refl, sym, ap, _∙_}
-use mathlib.Core.List.{List, [], _∷_}
+use mathlib.Core.List.{List, _∷_}
 use Prim.Native.Nat.{ℕ, _+_, _≤_, _<_}
 use native.Mathlib.Omega.{arith}
 use borrow.Author.Tests.{lt-ltb, le-ltb, le-leb, lt-leb, eq-eqb, ne-eqb}
@@ -19,23 +19,30 @@ use Rattle.lines.specs.declared.option.Took.{Took}
 use Rattle.lines.specs.declared.option.Took.the-variants.{Taken, Unknown, Unreadable}
 use Rattle.lines.specs.Key.{bufferKey, keyCount, unsaid}
 use Rattle.lines.specs.Name.{names, stateName, openName, nameCount, ends, textOf}
-use Rattle.lines.specs.Argument.{allRead, form, argumentOctets, Arguments}
-use Rattle.lines.specs.Option.{optionsTook, optionsValues, optionsNumbers, Ran}
-use Rattle.lines.specs.Call.{expectedWord, optioned, argumentsOf, optionsOf, readNamed, readWords, wordsOf, longest, readLine, valuesOf, callOf, octetsOf, Named, nameOf, after, lineCall, lineOctets, lineNumbers, Line, onCall, Lent}
+use Rattle.lines.specs.Argument.{allRead, form, argumentOctets, argumentsSeen, Arguments}
+use Rattle.lines.specs.Option.{optionsTook, optionsValues, optionsNumbers, optionsSeen, Ran}
+use Rattle.lines.specs.Call.{expectedWord, optioned, argumentsOf, optionsOf, readNamed, readWords, wordsOf, longest, readLine, valuesOf, callOf, octetsOf, onCall, namedSeen, Named, nameOf, after, ofNamed, ofLine, octetsLeft, numbersLeft, Lent}
 use Rattle.lines.proofs.Forms.{getD-under}
 use Rattle.lines.proofs.Bounds.{Held, held-options, held-form, fit}
 
-module _ (name ip port : ℕ) (s d n : List ℕ) (ws : List (List ℕ)) (r at : ℕ) (m e : List ℕ) (g : Arguments (form name) s unsaid d ws r at m e) where
-  pub not-read : (r ≡ allRead → ⊥) → (c x y : List ℕ) → Named name ip port d n ws (Read.Unread (expectedWord r)) c x y
-  unfolding readNamed
-  not-read h c x y =
+kept : (x : Read) → (x ≡ Read.Call → ⊥) → (new other : List ℕ) → other ≡ onCall x new other
+kept Read.Call f new other = absurd (f refl)
+kept Read.Nothing f new other = refl
+kept Read.Open f new other = refl
+kept Read.State f new other = refl
+kept (Read.Unread x) f new other = refl
+
+module _ (name ip port : ℕ) (s b d n : List ℕ) (ws : List (List ℕ)) (r at : ℕ) (m e : List ℕ) (g : Arguments (form name) s unsaid d ws r at m e) where
+  pub not-read : (r ≡ allRead → ⊥) → Named name ip port b d n ws (Read.Unread (expectedWord r)) b e n
+  unfolding readNamed namedSeen
+  not-read h =
       record {
         told =
             ap (λ (k : ℕ). Read.Unread (expectedWord k)) (g .told)
             ∙ sym (pick-f _ _ _ (ne-eqb _ _ (λ q. h (g .told ∙ q))));
-        call = λ q. let z : _≡_ {A = ℕ} 0 1 = cc in absurd (omega arith);
-        octets = λ q. let z : _≡_ {A = ℕ} 0 1 = cc in absurd (omega arith);
-        numbers = λ q. let z : _≡_ {A = ℕ} 0 1 = cc in absurd (omega arith);
+        call = refl;
+        octets = g .seen;
+        numbers = sym (pick-f _ _ _ (ne-eqb _ _ (λ q. h (g .told ∙ q))));
         fit = λ q. let z : _≡_ {A = ℕ} 0 1 = cc in absurd (omega arith);
       }
 
@@ -53,21 +60,37 @@ module _ (name ip port : ℕ) (s d n : List ℕ) (ws : List (List ℕ)) (r at : 
         ∙ ap (optionsTook bufferKey (getD ends name 0) (argumentsOf name ws)) (g .follows h))
         ∙ sym (pick-t _ _ _ (eq-eqb _ _ (sym (g .told) ∙ h)))
 
-    stopped : (x : Read) → (x ≡ Read.Call → ⊥) → x ≡ readNamed name ws → (c y z : List ℕ) → Named name ip port d n ws x c y z
-    stopped x f t c y z = record { told = t; call = λ q. absurd (f q); octets = λ q. absurd (f q); numbers = λ q. absurd (f q); fit = λ q. absurd (f q) }
+    seen-here : n2 ≡ namedSeen name ws n
+    unfolding namedSeen
+    seen-here =
+        o .seen
+        ∙ ap (λ (x : ℕ). optionsSeen bufferKey x m n (words (drop at s))) k
+        ∙ ap (λ (x : List ℕ). optionsSeen bufferKey (getD ends name 0) x n (words (drop at s))) values-here
+        ∙ ap (optionsSeen bufferKey (getD ends name 0) (argumentsOf name ws) n) (g .follows h)
+        ∙ sym (pick-t _ _ _ (eq-eqb _ _ (sym (g .told) ∙ h)))
 
-    pub unknown-word : q ≡ Unknown → (c y z : List ℕ) → Named name ip port d n ws (Read.Unread Expected.End) c y z
-    unfolding optioned
-    unknown-word t c y z = stopped _ (λ q. let z : _≡_ {A = ℕ} 0 1 = cc in omega arith) (rw t at told-here) c y z
+    stopped : (x : Read) → (x ≡ Read.Call → ⊥) → x ≡ readNamed name ws → Named name ip port b d n ws x b e n2
+    stopped x f t =
+        record {
+          told = t;
+          call = kept x f _ _;
+          octets = g .seen ∙ kept x f _ _;
+          numbers = seen-here ∙ kept x f _ _;
+          fit = λ q. absurd (f q);
+        }
 
-    pub unread-value : (j : ℕ) → q ≡ Unreadable j → (c y z : List ℕ) → Named name ip port d n ws (Read.Unread (Expected.ValueOf j)) c y z
+    pub unknown-word : q ≡ Unknown → Named name ip port b d n ws (Read.Unread Expected.End) b e n2
     unfolding optioned
-    unread-value j t c y z = stopped _ (λ q. let z : _≡_ {A = ℕ} 0 1 = cc in omega arith) (rw t at told-here) c y z
+    unknown-word t = stopped _ (λ q. let z : _≡_ {A = ℕ} 0 1 = cc in omega arith) (rw t at told-here)
+
+    pub unread-value : (j : ℕ) → q ≡ Unreadable j → Named name ip port b d n ws (Read.Unread (Expected.ValueOf j)) b e n2
+    unfolding optioned
+    unread-value j t = stopped _ (λ q. let z : _≡_ {A = ℕ} 0 1 = cc in omega arith) (rw t at told-here)
 
     module _ (t : q ≡ Taken) where
-      pub state : name ≡ stateName → (c y z : List ℕ) → Named name ip port d n ws Read.State c y z
+      pub state : name ≡ stateName → Named name ip port b d n ws Read.State b e n2
       unfolding optioned
-      state f c y z = stopped _ (λ q. let z : _≡_ {A = ℕ} 0 1 = cc in omega arith) (sym (pick-t _ _ _ (eq-eqb name stateName f)) ∙ (rw t at told-here)) c y z
+      state f = stopped _ (λ q. let z : _≡_ {A = ℕ} 0 1 = cc in omega arith) (sym (pick-t _ _ _ (eq-eqb name stateName f)) ∙ (rw t at told-here))
 
       values-then : m2 ≡ valuesOf name ws
       unfolding valuesOf
@@ -81,96 +104,107 @@ module _ (name ip port : ℕ) (s d n : List ℕ) (ws : List (List ℕ)) (r at : 
           let v : optionsValues (argumentsOf name ws) (words (drop at s)) ≡ m2 = sym (o .values t ∙ ap (λ (x : List ℕ). optionsValues x (words (drop at s))) values-here) in
           rw v at (held-options name bufferKey to (words (drop at s)) (argumentsOf name ws) b a (held-form name ws))
 
-      pub done : (name ≡ stateName → ⊥) → ip < 4294967296 → (c y : List ℕ) → c ≡ callOf name ip port m2 → y ≡ octetsOf name m2 e → Named name ip port d n ws Read.Call c y n2
+      pub done : (name ≡ stateName → ⊥) → ip < 4294967296 → (c y : List ℕ) → c ≡ callOf name ip port m2 → y ≡ octetsOf name m2 e → Named name ip port b d n ws Read.Call c y n2
       unfolding optioned
-      done f b c y p w =
+      done f l c y p w =
           record {
             told = sym (pick-f _ _ _ (ne-eqb name stateName f)) ∙ (rw t at told-here);
-            call = λ q. p ∙ ap (callOf name ip port) values-then;
-            octets = λ q. w ∙ ap (λ (x : List ℕ). octetsOf name x e) values-then ∙ ap (octetsOf name (valuesOf name ws)) (g .octets h);
-            numbers = λ q. o .numbers t ∙ ap (optionsNumbers n) (g .follows h);
-            fit = λ q. rw p (fit name m2 held ip port b);
+            call = p ∙ ap (callOf name ip port) values-then;
+            octets = w ∙ ap (λ (x : List ℕ). octetsOf name x e) values-then ∙ ap (octetsOf name (valuesOf name ws)) (g .octets h);
+            numbers = o .numbers t ∙ ap (optionsNumbers n) (g .follows h);
+            fit = λ q. rw p (fit name m2 held ip port l);
           }
 
 -- ---- a line
 
-module _ (line : List ℕ) (ip port : ℕ) (d n c e m : List ℕ) where
-  no-call : (x : Read) → (x ≡ Read.Call → ⊥) → x ≡ readLine line → Line line ip port d n x c e m
-  no-call x f t = record { told = t; call = λ q. absurd (f q); octets = λ q. absurd (f q); numbers = λ q. absurd (f q); fit = λ q. absurd (f q) }
+module _ (line : List ℕ) (ip port : ℕ) (b d n : List ℕ) where
+  -- a line without the words of a call's name leaves every buffer as it was
+  no-call : (x : Read) → (x ≡ Read.Call → ⊥) → x ≡ readLine line → ((f : ℕ → List (List ℕ) → List ℕ) (z : List ℕ) → z ≡ ofLine f z line) → Lent line ip port b d n x b d n
+  no-call x f t u =
+      record {
+        told = t;
+        call = kept x f _ _;
+        octets = u _ d ∙ kept x f _ _;
+        numbers = u _ n ∙ kept x f _ _;
+        fit = λ q. absurd (f q);
+      }
 
-  pub too-long : longest < length line → Line line ip port d n (Read.Unread Expected.ShorterLine) c e m
-  unfolding readLine
-  too-long h = no-call _ (λ q. let z : _≡_ {A = ℕ} 0 1 = cc in omega arith) (sym (pick-t _ _ _ (lt-ltb _ _ h)))
+  pub too-long : longest < length line → Lent line ip port b d n (Read.Unread Expected.ShorterLine) b d n
+  unfolding readLine ofLine
+  too-long h =
+      no-call _ (λ q. let z : _≡_ {A = ℕ} 0 1 = cc in omega arith) (sym (pick-t _ _ _ (lt-ltb _ _ h)))
+      (λ f z. sym (pick-t _ _ _ (lt-ltb _ _ h)))
 
   module _ (h : length line ≤ longest) (s : List ℕ) (q : s ≡ textOf line) (a z : ℕ) (w : WordAt s 0 a z) where
     by-words : readWords (words s) ≡ readLine line
     unfolding readLine
     by-words = ap (λ (x : List ℕ). readWords (words x)) q ∙ sym (pick-f _ _ _ (le-ltb _ _ h))
 
-    pub nothing : a ≡ z → Line line ip port d n Read.Nothing c e m
-    unfolding readWords
-    nothing f = no-call _ (λ q. let z : _≡_ {A = ℕ} 0 1 = cc in omega arith) (ap readWords (sym (no-word s 0 a z w f)) ∙ by-words)
+    of-words : (f : ℕ → List (List ℕ) → List ℕ) (y : List ℕ) → ofNamed f y (words s) ≡ ofLine f y line
+    unfolding ofLine
+    of-words f y = ap (λ (x : List ℕ). ofNamed f y (words x)) q ∙ sym (pick-f _ _ _ (le-ltb _ _ h))
+
+    pub nothing : a ≡ z → Lent line ip port b d n Read.Nothing b d n
+    unfolding readWords ofNamed
+    nothing f =
+        let o = no-word s 0 a z w f in
+        no-call _ (λ q. let z : _≡_ {A = ℕ} 0 1 = cc in omega arith) (ap readWords (sym o) ∙ by-words)
+        (λ f y. ap (ofNamed f y) (sym o) ∙ of-words f y)
 
     module _ (f : a ≡ z → ⊥) (name : ℕ) (k : name ≡ place (part s a z) names) where
       first : words s ≡ part s a z ∷ words (drop z s)
       first = one-word s 0 a z w f
 
-      pub opens : name ≡ openName → Line line ip port d n Read.Open c e m
-      unfolding readWords
-      opens b = no-call _ (λ q. let z : _≡_ {A = ℕ} 0 1 = cc in omega arith) (sym (pick-t _ _ _ (eq-eqb _ _ (sym k ∙ b))) ∙ ap readWords (sym first) ∙ by-words)
+      pub opens : name ≡ openName → Lent line ip port b d n Read.Open b d n
+      unfolding readWords ofNamed
+      opens v =
+          no-call _ (λ q. let z : _≡_ {A = ℕ} 0 1 = cc in omega arith) (sym (pick-t _ _ _ (eq-eqb _ _ (sym k ∙ v))) ∙ ap readWords (sym first) ∙ by-words)
+          (λ f y. sym (pick-t _ _ _ (eq-eqb _ _ (sym k ∙ v))) ∙ ap (ofNamed f y) (sym first) ∙ of-words f y)
 
-      pub not-a-call : nameCount ≤ name → Line line ip port d n (Read.Unread Expected.Call) c e m
-      unfolding readWords
-      not-a-call b =
+      pub not-a-call : nameCount ≤ name → Lent line ip port b d n (Read.Unread Expected.Call) b d n
+      unfolding readWords ofNamed
+      not-a-call v =
+          let o = ne-eqb (place (part s a z) names) openName (λ t. omega arith) in
+          let p = le-leb nameCount (place (part s a z) names) (omega arith) in
           no-call _ (λ q. let z : _≡_ {A = ℕ} 0 1 = cc in omega arith)
-          (sym (pick-f _ _ _ (ne-eqb (place (part s a z) names) openName (λ v. omega arith)) ∙ pick-t _ _ _ (le-leb nameCount (place (part s a z) names) (omega arith)))
-          ∙ ap readWords (sym first)
-          ∙ by-words)
+          (sym (pick-f _ _ _ o ∙ pick-t _ _ _ p) ∙ ap readWords (sym first) ∙ by-words)
+          (λ f y. sym (pick-f _ _ _ o ∙ pick-t _ _ _ p) ∙ ap (ofNamed f y) (sym first) ∙ of-words f y)
 
-      pub called : (name ≡ openName → ⊥) → name < nameCount → (r : Read) → Named name ip port d n (words (drop z s)) r c e m → Line line ip port d n r c e m
-      unfolding readWords
-      called o b r v =
-          let ws : wordsOf line ≡ part s a z ∷ words (drop z s) = ap words (sym q) ∙ first in
-          let x : name ≡ nameOf (wordsOf line) = k ∙ ap nameOf (sym ws) in
-          let y : words (drop z s) ≡ after (wordsOf line) = ap after (sym ws) in
-          record {
-            told =
-                v .told
-                ∙ ap (λ (i : ℕ). readNamed i (words (drop z s))) k
-                ∙ sym (pick-f _ _ _ (ne-eqb (place (part s a z) names) openName (λ v. o (k ∙ v))) ∙ pick-f _ _ _ (lt-leb nameCount (place (part s a z) names) (omega arith)))
-                ∙ ap readWords (sym first)
-                ∙ by-words;
-            call = λ t. v .call t ∙ ap (λ (i : ℕ). callOf i ip port (valuesOf i (words (drop z s)))) x ∙ ap (λ (i : List (List ℕ)). callOf (nameOf (wordsOf line)) ip port (valuesOf (nameOf (wordsOf line)) i)) y;
-            octets =
-                λ t. v .octets t
-                ∙ ap (λ (i : ℕ). octetsOf i (valuesOf i (words (drop z s))) (argumentOctets (form i) (words (drop z s)) d)) x
-                ∙ ap (λ (i : List (List ℕ)). octetsOf (nameOf (wordsOf line)) (valuesOf (nameOf (wordsOf line)) i) (argumentOctets (form (nameOf (wordsOf line))) i d)) y;
-            numbers =
-                λ t. v .numbers t
-                ∙ ap (λ (i : ℕ). optionsNumbers n (optionsOf i (words (drop z s)))) x
-                ∙ ap (λ (i : List (List ℕ)). optionsNumbers n (optionsOf (nameOf (wordsOf line)) i)) y;
-            fit = v .fit;
-          }
+      module _ (o : name ≡ openName → ⊥) (l : name < nameCount) where
+        of-called : (f : ℕ → List (List ℕ) → List ℕ) (y : List ℕ) → f name (words (drop z s)) ≡ ofLine f y line
+        unfolding ofNamed
+        of-called f y =
+            ap (λ (i : ℕ). f i (words (drop z s))) k
+            ∙ sym (pick-f _ _ _ (ne-eqb (place (part s a z) names) openName (λ v. o (k ∙ v))) ∙ pick-f _ _ _ (lt-leb nameCount (place (part s a z) names) (omega arith)))
+            ∙ ap (ofNamed f y) (sym first)
+            ∙ of-words f y
 
--- ---- the lent buffers
-
-module _ (line : List ℕ) (ip port : ℕ) (b d n : List ℕ) (r : Read) (c e m : List ℕ) (l : Line line ip port d n r c e m) where
-  pub a-call : r ≡ Read.Call → Lent line ip port b d n r c e m
-  a-call q =
-      record {
-        told = l .told;
-        call = l .call q ∙ ap (λ (x : Read). onCall x (lineCall line ip port) b) (sym q);
-        octets = l .octets q ∙ ap (λ (x : Read). onCall x (lineOctets line d) d) (sym q);
-        numbers = l .numbers q ∙ ap (λ (x : Read). onCall x (lineNumbers line n) n) (sym q);
-        fit = l .fit;
-      }
-
-  kept : {A : Type 0} (x : Read) → (x ≡ Read.Call → ⊥) → (new old : A) → old ≡ onCall x new old
-  kept Read.Call f new old = absurd (f refl)
-  kept Read.Nothing f new old = refl
-  kept Read.Open f new old = refl
-  kept Read.State f new old = refl
-  kept (Read.Unread x) f new old = refl
-
-  pub none-of-it : (r ≡ Read.Call → ⊥) → Lent line ip port b d n r b d n
-  none-of-it f = record { told = l .told; call = kept r f _ _; octets = kept r f _ _; numbers = kept r f _ _; fit = λ q. absurd (f q) }
+        pub called : (r : Read) (c e m : List ℕ) → Named name ip port b d n (words (drop z s)) r c e m → Lent line ip port b d n r c e m
+        unfolding readWords
+        called r c e m v =
+            let ws : wordsOf line ≡ part s a z ∷ words (drop z s) = ap words (sym q) ∙ first in
+            let x : name ≡ nameOf (wordsOf line) = k ∙ ap nameOf (sym ws) in
+            let y : words (drop z s) ≡ after (wordsOf line) = ap after (sym ws) in
+            record {
+              told =
+                  v .told
+                  ∙ ap (λ (i : ℕ). readNamed i (words (drop z s))) k
+                  ∙ sym (pick-f _ _ _ (ne-eqb (place (part s a z) names) openName (λ v. o (k ∙ v))) ∙ pick-f _ _ _ (lt-leb nameCount (place (part s a z) names) (omega arith)))
+                  ∙ ap readWords (sym first)
+                  ∙ by-words;
+              call =
+                  v .call
+                  ∙ ap (λ (i : ℕ). onCall r (callOf i ip port (valuesOf i (words (drop z s)))) b) x
+                  ∙ ap (λ (i : List (List ℕ)). onCall r (callOf (nameOf (wordsOf line)) ip port (valuesOf (nameOf (wordsOf line)) i)) b) y;
+              octets =
+                  v .octets
+                  ∙ ap (onCall r (octetsOf name (valuesOf name (words (drop z s))) (argumentOctets (form name) (words (drop z s)) d))) (of-called (λ i vs. argumentsSeen (form i) vs d) d)
+                  ∙ ap (λ (i : ℕ). onCall r (octetsOf i (valuesOf i (words (drop z s))) (argumentOctets (form i) (words (drop z s)) d)) (octetsLeft line d)) x
+                  ∙ ap (λ (i : List (List ℕ)). onCall r (octetsOf (nameOf (wordsOf line)) (valuesOf (nameOf (wordsOf line)) i) (argumentOctets (form (nameOf (wordsOf line))) i d)) (octetsLeft line d)) y;
+              numbers =
+                  v .numbers
+                  ∙ ap (onCall r (optionsNumbers n (optionsOf name (words (drop z s))))) (of-called (λ i vs. namedSeen i vs n) n)
+                  ∙ ap (λ (i : ℕ). onCall r (optionsNumbers n (optionsOf i (words (drop z s)))) (numbersLeft line n)) x
+                  ∙ ap (λ (i : List (List ℕ)). onCall r (optionsNumbers n (optionsOf (nameOf (wordsOf line)) i)) (numbersLeft line n)) y;
+              fit = v .fit;
+            }

@@ -1,18 +1,41 @@
 -- The words of a form, one by one: what each turn of the loop over them leaves. Assumes nothing.
 use mathlib.Core.Path.{_≡_, refl, sym, ap, _∙_}
 use mathlib.Core.List.{List, [], _∷_}
+use mathlib.Core.Bool.{Bool, true, false}
 use Prim.Native.Nat.{ℕ, suc, _+_, _-_, _≤_, _<_}
 use native.Mathlib.Nat.{sub-zero}
 use native.Mathlib.Numerals.{add-one}
 use native.Mathlib.Omega.{arith}
+use borrow.Author.Tests.{eqb-true}
+use lib.Dec.{eqb}
 use lib.ListN.{length, drop, getD, set, length-set, drop-of-length-le}
 use lib.Seq.{drop-cons}
+use Rattle.base.specs.Pick.{pick}
+use Rattle.octets.specs.Written.{written}
 use Rattle.text.specs.Split.{words, part, WordAt}
 use Rattle.text.specs.declared.Spelt.the-variants.{Number, Nothing}
 use Rattle.text.proofs.Splits.{no-word, one-word}
 use Rattle.lines.specs.Key.{wordsAt}
-use Rattle.lines.specs.Argument.{allRead, argument, octetsAs, unread, argumentValues, argumentOctets, argumentsRest, Arguments}
-use Rattle.values.proofs.Values.{given-no, given-yes}
+use Rattle.lines.specs.Argument.{octetsWord, most, allRead, argumentAs, argument, octetsAs, octetsSeenAs, unread, argumentValues, argumentOctets, argumentsSeen, argumentsRest, Arguments}
+use Rattle.values.specs.Octets.{octetsOf, octetsSeen, octetCount}
+use Rattle.values.proofs.Values.{given-no, given-yes, up-to-number}
+use Rattle.values.proofs.Hexadecimals.{seen-octets}
+
+-- ---- of a word that can be read, what was seen is the whole of it
+
+by-octets : (t : ℕ) (w : List ℕ) → t ≡ octetsWord → argumentAs t w ≡ octetCount w
+unfolding argumentAs pick
+by-octets t w e = rw e
+
+seen-whole : (t : ℕ) (w d : List ℕ) (v : ℕ) → argument t w ≡ Number v → octetsSeenAs t w d ≡ octetsAs t w d
+unfolding argument octetsSeenAs octetsAs pick
+seen-whole t w d v e = go (eqb t octetsWord) refl
+  where
+    go : (b : Bool) → eqb t octetsWord ≡ b → pick b (written d 0 (octetsSeen w)) d ≡ pick b (written d 0 (octetsOf w)) d
+    go true q = ap (written d 0) (seen-octets w v (sym (by-octets t w (eqb-true t octetsWord q)) ∙ up-to-number (getD most t 0) (argumentAs t w) v e))
+    go false q = refl
+
+-- ---- word by word
 
 -- the first j words of the form are read, and have left m and n
 pub record Filling (ts s l d : List ℕ) (start at j : ℕ) (m n : List ℕ) : Type 0 where
@@ -23,6 +46,7 @@ pub record Filling (ts s l d : List ℕ) (start at j : ℕ) (m n : List ℕ) : T
   pub told : unread (drop j ts) (words (drop at s)) ≡ unread ts (words (drop start s))
   pub values : argumentValues (wordsAt + j) (drop j ts) (words (drop at s)) m ≡ argumentValues wordsAt ts (words (drop start s)) l
   pub octets : argumentOctets (drop j ts) (words (drop at s)) n ≡ argumentOctets ts (words (drop start s)) d
+  pub seen : argumentsSeen (drop j ts) (words (drop at s)) n ≡ argumentsSeen ts (words (drop start s)) d
   pub follows : drop (length ts - j) (words (drop at s)) ≡ drop (length ts) (words (drop start s))
   pub rest : argumentsRest (drop j ts) (words (drop at s)) ≡ argumentsRest ts (words (drop start s))
 
@@ -36,13 +60,14 @@ filling ts s l d start h =
       told = refl;
       values = refl;
       octets = refl;
+      seen = refl;
       follows = rw (sub-zero (length ts));
       rest = refl;
     }
 
 module _ (ts s l d : List ℕ) (start at j : ℕ) (m n : List ℕ) (i : Filling ts s l d start at j m n) where
   pub filled : length ts ≤ j → Arguments ts s l d (words (drop start s)) allRead at m n
-  unfolding unread argumentValues argumentOctets argumentsRest
+  unfolding unread argumentValues argumentOctets argumentsSeen argumentsRest
   filled h =
       let z = drop-of-length-le ts {i = j} h in
       let k : length ts - j ≡ 0 = omega arith in
@@ -51,6 +76,7 @@ module _ (ts s l d : List ℕ) (start at j : ℕ) (m n : List ℕ) (i : Filling 
         within = i .within;
         values = λ t. sym (ap (λ (x : List ℕ). argumentValues (wordsAt + j) x (words (drop at s)) m) z) ∙ i .values;
         octets = λ t. sym (ap (λ (x : List ℕ). argumentOctets x (words (drop at s)) n) z) ∙ i .octets;
+        seen = sym (ap (λ (x : List ℕ). argumentsSeen x (words (drop at s)) n) z) ∙ i .seen;
         follows = λ t. sym (ap (λ (x : ℕ). drop x (words (drop at s))) k) ∙ i .follows;
         rest = sym (ap (λ (x : List ℕ). argumentsRest x (words (drop at s))) z) ∙ i .rest;
       }
@@ -60,23 +86,25 @@ module _ (ts s l d : List ℕ) (start at j : ℕ) (m n : List ℕ) (i : Filling 
     next = drop-cons ts j 0 h ∙ ap (λ (x : ℕ). x ∷ drop (suc j) ts) (sym k)
 
     unread-here : (x y : List ℕ) → t ≡ unread ts (words (drop start s)) → words (drop at s) ≡ argumentsRest ts (words (drop start s))
-        → Arguments ts s l d (words (drop start s)) t at x y
-    unread-here x y q v =
+        → y ≡ argumentsSeen ts (words (drop start s)) d → Arguments ts s l d (words (drop start s)) t at x y
+    unread-here x y q v u =
         record {
           told = q;
           within = i .within;
           values = λ z. absurd (omega arith);
           octets = λ z. absurd (omega arith);
+          seen = u;
           follows = λ z. absurd (omega arith);
           rest = v;
         }
 
     pub not-there : a ≡ e → Arguments ts s l d (words (drop start s)) t at m n
-    unfolding unread argumentsRest
+    unfolding unread argumentsSeen argumentsRest
     not-there z =
         let o = no-word s at a e w z in
         unread-here m n (sym (ap (λ (x : List ℕ). unread x []) next) ∙ ap (unread (drop j ts)) (sym o) ∙ i .told)
         (o ∙ sym (ap (λ (x : List ℕ). argumentsRest x []) next) ∙ ap (argumentsRest (drop j ts)) (sym o) ∙ i .rest)
+        (sym (ap (λ (x : List ℕ). argumentsSeen x [] n) next) ∙ ap (λ (x : List (List ℕ)). argumentsSeen (drop j ts) x n) (sym o) ∙ i .seen)
 
     module _ (z : a ≡ e → ⊥) where
       told-next : unread (t ∷ drop (suc j) ts) (part s a e ∷ words (drop e s)) ≡ unread ts (words (drop start s))
@@ -91,12 +119,20 @@ module _ (ts s l d : List ℕ) (start at j : ℕ) (m n : List ℕ) (i : Filling 
           ∙ ap (argumentsRest (drop j ts)) (sym (one-word s at a e w z))
           ∙ i .rest
 
-      pub not-read : (p : List ℕ) → argument t (part s a e) ≡ Nothing → Arguments ts s l d (words (drop start s)) t at m p
-      unfolding unread argumentsRest
-      not-read p r = unread-here m p (sym (given-no _ _ _ r) ∙ told-next) (one-word s at a e w z ∙ sym (given-no _ _ _ r) ∙ rest-next)
+      seen-next : argumentsSeen (t ∷ drop (suc j) ts) (part s a e ∷ words (drop e s)) n ≡ argumentsSeen ts (words (drop start s)) d
+      seen-next =
+          ap (λ (x : List ℕ). argumentsSeen x (part s a e ∷ words (drop e s)) n) (sym next)
+          ∙ ap (λ (x : List (List ℕ)). argumentsSeen (drop j ts) x n) (sym (one-word s at a e w z))
+          ∙ i .seen
 
-      pub read-on : (v : ℕ) (p : List ℕ) → argument t (part s a e) ≡ Number v → p ≡ octetsAs t (part s a e) n → length p ≡ length n → Filling ts s l d start e (j + 1) (set m (wordsAt + j) v) p
-      unfolding unread argumentValues argumentOctets argumentsRest
+      pub not-read : (p : List ℕ) → argument t (part s a e) ≡ Nothing → p ≡ octetsSeenAs t (part s a e) n → Arguments ts s l d (words (drop start s)) t at m p
+      unfolding unread argumentsSeen argumentsRest
+      not-read p r q =
+          unread-here m p (sym (given-no _ _ _ r) ∙ told-next) (one-word s at a e w z ∙ sym (given-no _ _ _ r) ∙ rest-next)
+          (q ∙ sym (given-no _ _ _ r) ∙ seen-next)
+
+      pub read-on : (v : ℕ) (p : List ℕ) → argument t (part s a e) ≡ Number v → p ≡ octetsSeenAs t (part s a e) n → length p ≡ length n → Filling ts s l d start e (j + 1) (set m (wordsAt + j) v) p
+      unfolding unread argumentValues argumentOctets argumentsSeen argumentsRest
       read-on v p r q y =
           let o = one-word s at a e w z in
           let up : drop (j + 1) ts ≡ drop (suc j) ts = ap (λ (f : ℕ). drop f ts) (add-one j) in
@@ -117,10 +153,15 @@ module _ (ts s l d : List ℕ) (start at j : ℕ) (m n : List ℕ) (i : Filling 
                 ∙ i .values;
             octets =
                 ap (λ (c : List ℕ). argumentOctets c (words (drop e s)) p) up
-                ∙ ap (argumentOctets (drop (suc j) ts) (words (drop e s))) q
+                ∙ ap (argumentOctets (drop (suc j) ts) (words (drop e s))) (q ∙ seen-whole t (part s a e) n v r)
                 ∙ ap (λ (c : List ℕ). argumentOctets c (part s a e ∷ words (drop e s)) n) (sym next)
                 ∙ ap (λ (c : List (List ℕ)). argumentOctets (drop j ts) c n) (sym o)
                 ∙ i .octets;
+            seen =
+                ap (λ (c : List ℕ). argumentsSeen c (words (drop e s)) p) up
+                ∙ ap (argumentsSeen (drop (suc j) ts) (words (drop e s))) q
+                ∙ sym (given-yes _ _ _ v r)
+                ∙ seen-next;
             follows =
                 ap (λ (c : ℕ). drop c (part s a e ∷ words (drop e s))) (sym g)
                 ∙ ap (drop (length ts - j)) (sym o)

@@ -11,7 +11,7 @@ use Rattle.text.specs.Split.{words}
 use Rattle.text.specs.declared.Spelt.{Spelt}
 use Rattle.lines.specs.Key.{wordsAt, mostOctets}
 use Rattle.values.specs.Value.{given, upTo, reading, sender}
-use Rattle.values.specs.Octets.{octetsOf, octetCount}
+use Rattle.values.specs.Octets.{octetsOf, octetsSeen, octetCount}
 
 -- what a word is
 abbrev pub readingWord : ℕ
@@ -70,6 +70,10 @@ argument t w = upTo (getD most t 0) (argumentAs t w)
 unfoldable pub octetsAs : ℕ → List ℕ → List ℕ → List ℕ
 octetsAs t w d = pick (eqb t octetsWord) (written d 0 (octetsOf w)) d
 
+-- the lent octets where its reading ended, whether it could be read or not
+unfoldable pub octetsSeenAs : ℕ → List ℕ → List ℕ → List ℕ
+octetsSeenAs t w d = pick (eqb t octetsWord) (written d 0 (octetsSeen w)) d
+
 -- ---- the words of a form, in order
 
 -- no word is left unread
@@ -93,6 +97,12 @@ argumentOctets [] ws d = d
 argumentOctets (t ∷ ts) [] d = d
 argumentOctets (t ∷ ts) (w ∷ ws) d = argumentOctets ts ws (octetsAs t w d)
 
+-- the lent octets where the reading ended: at the first that isn't there or can't be read, or behind the form
+unfoldable pub argumentsSeen : List ℕ → List (List ℕ) → List ℕ → List ℕ
+argumentsSeen [] ws d = d
+argumentsSeen (t ∷ ts) [] d = d
+argumentsSeen (t ∷ ts) (w ∷ ws) d = given (argument t w) (λ n. argumentsSeen ts ws (octetsSeenAs t w d)) (octetsSeenAs t w d)
+
 -- the words from the first on that isn't there or can't be read; those behind the form where there is none
 unfoldable pub argumentsRest : List ℕ → List (List ℕ) → List (List ℕ)
 argumentsRest [] ws = ws
@@ -105,5 +115,6 @@ pub record Arguments (ts : List ℕ) (s l d : List ℕ) (ws : List (List ℕ)) (
   pub within : at ≤ length s
   pub values : r ≡ allRead → m ≡ argumentValues wordsAt ts ws l
   pub octets : r ≡ allRead → e ≡ argumentOctets ts ws d
+  pub seen : e ≡ argumentsSeen ts ws d
   pub follows : r ≡ allRead → words (drop at s) ≡ drop (length ts) ws
   pub rest : words (drop at s) ≡ argumentsRest ts ws

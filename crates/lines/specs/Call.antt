@@ -17,8 +17,8 @@ use Rattle.lines.specs.declared.option.Took.{Took}
 use Rattle.lines.specs.declared.option.Took.the-variants.{Taken, Unknown, Unreadable}
 use Rattle.lines.specs.Key.{bufferKey, waitingKey, lengthKey, bitsKey, samplesKey, wordsAt, firstWord, secondWord, thirdWord, fourthWord, keysAt, unsaid, mostOctets, mostNumbers}
 use Rattle.lines.specs.Name.{names, iqName, statusName, datagramName, takeName, stateName, openName, nameCount, ends, kinds, buffers, textOf}
-use Rattle.lines.specs.Argument.{readingWord, numberWord, octetWord, placesWord, senderWord, form, allRead, unread, argumentValues, argumentOctets}
-use Rattle.lines.specs.Option.{said, optionsTook, optionsValues, optionsNumbers}
+use Rattle.lines.specs.Argument.{readingWord, numberWord, octetWord, placesWord, senderWord, form, allRead, unread, argumentValues, argumentOctets, argumentsSeen}
+use Rattle.lines.specs.Option.{said, optionsTook, optionsValues, optionsNumbers, optionsSeen}
 use Rattle.values.specs.Datagram.{iqOctets, statusOctets}
 
 -- ---- what the line is
@@ -143,12 +143,27 @@ pub record Fit (c : List ℕ) : Type 0 where
   pub waiting : getD c 6 0 ≤ mostNumbers
   pub places : getD c 7 0 ≤ 8192
 
--- the words ws of a call's name were read as r, and the lent buffers are then c, e and m
-pub record Named (name ip port : ℕ) (d n : List ℕ) (ws : List (List ℕ)) (r : Read) (c e m : List ℕ) : Type 0 where
+-- what a buffer holds after an answer: a call's, or the other
+abbrev pub onCall : {A : Type 0} → Read → A → A → A
+onCall Read.Call new other = new
+onCall Read.Nothing new other = other
+onCall Read.Open new other = other
+onCall Read.State new other = other
+onCall (Read.Unread e) new other = other
+
+-- the lent numbers where the reading of a call's words ended: options are read where every word of the form is
+unfoldable pub namedSeen : ℕ → List (List ℕ) → List ℕ → List ℕ
+namedSeen name ws n =
+    pick (eqb (unread (form name) ws) allRead)
+    (optionsSeen bufferKey (getD ends name 0) (argumentsOf name ws) n (optionsOf name ws))
+    n
+
+-- the words ws of a call's name were read as r, and the lent buffers, which were b, d and n, are then c, e and m
+pub record Named (name ip port : ℕ) (b d n : List ℕ) (ws : List (List ℕ)) (r : Read) (c e m : List ℕ) : Type 0 where
   pub told : r ≡ readNamed name ws
-  pub call : r ≡ Read.Call → c ≡ callOf name ip port (valuesOf name ws)
-  pub octets : r ≡ Read.Call → e ≡ octetsOf name (valuesOf name ws) (argumentOctets (form name) ws d)
-  pub numbers : r ≡ Read.Call → m ≡ optionsNumbers n (optionsOf name ws)
+  pub call : c ≡ onCall r (callOf name ip port (valuesOf name ws)) b
+  pub octets : e ≡ onCall r (octetsOf name (valuesOf name ws) (argumentOctets (form name) ws d)) (argumentsSeen (form name) ws d)
+  pub numbers : m ≡ onCall r (optionsNumbers n (optionsOf name ws)) (namedSeen name ws n)
   pub fit : r ≡ Read.Call → Fit c
 
 -- the first word's name, and the words after it
@@ -171,26 +186,29 @@ lineOctets line d =
 abbrev pub lineNumbers : List ℕ → List ℕ → List ℕ
 lineNumbers line n = optionsNumbers n (optionsOf (nameOf (wordsOf line)) (after (wordsOf line)))
 
--- what buffers hold that are written while the line is read: of a call the whole of it
-pub record Line (line : List ℕ) (ip port : ℕ) (d n : List ℕ) (r : Read) (c e m : List ℕ) : Type 0 where
-  pub told : r ≡ readLine line
-  pub call : r ≡ Read.Call → c ≡ lineCall line ip port
-  pub octets : r ≡ Read.Call → e ≡ lineOctets line d
-  pub numbers : r ≡ Read.Call → m ≡ lineNumbers line n
-  pub fit : r ≡ Read.Call → Fit c
+-- what f makes of a call's name and the words after it; z of a line that is too long, has no words, is an `open` or names no call
+unfoldable pub ofNamed : (ℕ → List (List ℕ) → List ℕ) → List ℕ → List (List ℕ) → List ℕ
+ofNamed f z [] = z
+ofNamed f z (w ∷ ws) =
+    pick (eqb (place w names) openName) z
+    (pick (leb nameCount (place w names)) z
+    (f (place w names) ws))
 
--- a buffer after an answer: a call's, and as it was after any other
-abbrev pub onCall : {A : Type 0} → Read → A → A → A
-onCall Read.Call new old = new
-onCall Read.Nothing new old = old
-onCall Read.Open new old = old
-onCall Read.State new old = old
-onCall (Read.Unread e) new old = old
+unfoldable pub ofLine : (ℕ → List (List ℕ) → List ℕ) → List ℕ → List ℕ → List ℕ
+ofLine f z line = pick (ltb longest (length line)) z (ofNamed f z (wordsOf line))
 
--- the line was read as r, and the lent buffers, which were b, d and n, are then c, e and m
+-- the lent octets and numbers after a line of which no call was made: what was written before the reading stopped
+abbrev pub octetsLeft : List ℕ → List ℕ → List ℕ
+octetsLeft line d = ofLine (λ name ws. argumentsSeen (form name) ws d) d line
+
+abbrev pub numbersLeft : List ℕ → List ℕ → List ℕ
+numbersLeft line n = ofLine (λ name ws. namedSeen name ws n) n line
+
+-- the line was read as r, and the lent buffers, which were b, d and n, are then c, e and m: after a call all three are the call's; after
+-- any other answer the eight numbers are as they were, and octets and numbers are as the reading left them
 pub record Lent (line : List ℕ) (ip port : ℕ) (b d n : List ℕ) (r : Read) (c e m : List ℕ) : Type 0 where
   pub told : r ≡ readLine line
   pub call : c ≡ onCall r (lineCall line ip port) b
-  pub octets : e ≡ onCall r (lineOctets line d) d
-  pub numbers : m ≡ onCall r (lineNumbers line n) n
+  pub octets : e ≡ onCall r (lineOctets line d) (octetsLeft line d)
+  pub numbers : m ≡ onCall r (lineNumbers line n) (numbersLeft line n)
   pub fit : r ≡ Read.Call → Fit c

@@ -17,7 +17,7 @@ use Rattle.lines.specs.declared.option.Took.{Took}
 use Rattle.lines.specs.declared.option.Took.the-variants.{Taken, Unknown, Unreadable}
 use Rattle.lines.specs.Key.{keys, keysAt, marks, mostOctets, mostNumbers}
 use Rattle.values.specs.Value.{given, upTo, number, reading, double, ipv4}
-use Rattle.values.specs.Waiting.{waitingCount, waitingNumbers}
+use Rattle.values.specs.Waiting.{waitingCount, waitingNumbers, waitingSeen}
 
 -- how a value is spelt
 abbrev pub asNumber : ℕ
@@ -114,6 +114,13 @@ numbersAs how w d = pick (eqb how asWaiting) (written d 0 (waitingNumbers w)) d
 abbrev pub numbersFor : ℕ → List ℕ → List ℕ → List ℕ
 numbersFor key w d = numbersAs (getD spellings key 0) w d
 
+-- the lent numbers where its reading ended, whether it could be read or not
+unfoldable pub numbersSeenAs : ℕ → List ℕ → List ℕ → List ℕ
+numbersSeenAs how w d = pick (eqb how asWaiting) (written d 0 (waitingSeen w)) d
+
+abbrev pub numbersSeenFor : ℕ → List ℕ → List ℕ → List ℕ
+numbersSeenFor key w d = numbersSeenAs (getD spellings key 0) w d
+
 -- ---- a word: its key and its value
 
 abbrev pub keyAt : ℕ → List ℕ → ℕ
@@ -149,11 +156,22 @@ valuesAfter l w = valuesKey (keyAt (equalsIn w) w) (valueAt (equalsIn w) w) l
 unfoldable pub numbersAfter : List ℕ → List ℕ → List ℕ
 numbersAfter d w = numbersFor (keyAt (equalsIn w) w) (valueAt (equalsIn w) w) d
 
+-- the value of an unknown word is not read
+unfoldable pub ifKnown : Took → List ℕ → List ℕ → List ℕ
+ifKnown Unknown e d = d
+ifKnown Taken e d = e
+ifKnown (Unreadable k) e d = e
+
+-- the lent numbers where the reading of a word ended
+unfoldable pub numbersSeen : ℕ → ℕ → List ℕ → List ℕ → List ℕ → List ℕ
+numbersSeen from to l d w = ifKnown (took from to l w) (numbersSeenFor (keyAt (equalsIn w) w) (valueAt (equalsIn w) w) d) d
+
 -- a word was taken as r, and the values and the lent numbers are then m and e
 pub record Stepped (from to : ℕ) (l d w : List ℕ) (r : Took) (m e : List ℕ) : Type 0 where
   pub told : r ≡ took from to l w
   pub values : r ≡ Taken → m ≡ valuesAfter l w
   pub numbers : r ≡ Taken → e ≡ numbersAfter d w
+  pub seen : e ≡ numbersSeen from to l d w
 
 -- ---- a run of words
 
@@ -174,20 +192,28 @@ unfoldable pub optionsNumbers : List ℕ → List (List ℕ) → List ℕ
 optionsNumbers d [] = d
 optionsNumbers d (w ∷ ws) = optionsNumbers (numbersAfter d w) ws
 
--- the words from the one on at which a run stops; none where it takes them all
-unfoldable pub stopped : Took → List (List ℕ) → List (List ℕ) → List (List ℕ)
+-- a run stops at a word that is not taken
+unfoldable pub stopped : {A : Type 0} → Took → A → A → A
 stopped Taken here on = on
 stopped Unknown here on = here
 stopped (Unreadable k) here on = here
 
+-- the words from the one on at which a run stops; none where it takes them all
 unfoldable pub optionsRest : ℕ → ℕ → List ℕ → List (List ℕ) → List (List ℕ)
 optionsRest from to l [] = []
 optionsRest from to l (w ∷ ws) = stopped (took from to l w) (w ∷ ws) (optionsRest from to (valuesAfter l w) ws)
+
+-- the lent numbers where a run ended
+unfoldable pub optionsSeen : ℕ → ℕ → List ℕ → List ℕ → List (List ℕ) → List ℕ
+optionsSeen from to l d [] = d
+optionsSeen from to l d (w ∷ ws) =
+    stopped (took from to l w) (numbersSeen from to l d w) (optionsSeen from to (valuesAfter l w) (numbersSeen from to l d w) ws)
 
 pub record Ran (from to : ℕ) (l d : List ℕ) (ws : List (List ℕ)) (r : Took) (m e : List ℕ) : Type 0 where
   pub told : r ≡ optionsTook from to l ws
   pub values : r ≡ Taken → m ≡ optionsValues l ws
   pub numbers : r ≡ Taken → e ≡ optionsNumbers d ws
+  pub seen : e ≡ optionsSeen from to l d ws
 
 -- a run of the words ws stopped in s at at
 pub record Stopped (from to : ℕ) (s l : List ℕ) (ws : List (List ℕ)) (at : ℕ) : Type 0 where

@@ -1,9 +1,8 @@
 // The words that stand after a call's name, into a lent list of values.
 ghost use mathlib.Core.Path.{_≡_};
-ghost use Prim.Native.Nat.{ℕ, _≤_, _<_};
+ghost use Prim.Native.Nat.{_≤_, _<_};
 ghost use lib.ListN.{length, drop, getD};
 ghost use Rattle.text.specs.Split.{words};
-ghost use Rattle.text.specs.declared.Spelt.the-variants.{Number};
 ghost use Rattle.lines.specs.Argument as Argument;
 ghost use Rattle.lines.specs.Key.{valueCount, mostOctets};
 ghost use Rattle.lines.specs.Name.{nameCount};
@@ -128,7 +127,7 @@ fn argument_as(t: u8, w: &[u8], room: &mut [u8]) -> Spelt
     requires { ⌜ mostOctets ≤ length (now room) ⌝ }
     ensures { λ r. ⌜
         (r ≡ Argument.argumentAs t (now (w .entry))) ×
-        ((n : ℕ) → r ≡ Number n → now (room .exit) ≡ Argument.octetsAs t (now (w .entry)) (now (room .entry)))
+        (now (room .exit) ≡ Argument.octetsSeenAs t (now (w .entry)) (now (room .entry)))
         ⌝ }
 {
     if t == READING {
@@ -147,7 +146,7 @@ fn argument(t: u8, w: &[u8], room: &mut [u8]) -> Spelt
     requires { ⌜ (t < Argument.allRead) × (mostOctets ≤ length (now room)) ⌝ }
     ensures { λ r. ⌜
         (r ≡ Argument.argument t (now (w .entry))) ×
-        ((n : ℕ) → r ≡ Number n → now (room .exit) ≡ Argument.octetsAs t (now (w .entry)) (now (room .entry)))
+        (now (room .exit) ≡ Argument.octetsSeenAs t (now (w .entry)) (now (room .entry)))
         ⌝ }
 {
     let most = MOST[t as usize];

@@ -185,8 +185,8 @@ fn read_named(
         (at ≤ length (now s)) × (name < nameCount) × (mostOctets ≤ length (now octets)) × (mostNumbers ≤ length (now numbers))
         ⌝ }
     ensures { λ r. ⌜
-        Call.Named name ip port (now (octets .entry)) (now (numbers .entry)) (words (drop at (now (s .entry)))) r
-        (now (call .exit)) (now (octets .exit)) (now (numbers .exit))
+        Call.Named name ip port (now (call .entry)) (now (octets .entry)) (now (numbers .entry))
+        (words (drop at (now (s .entry)))) r (now (call .exit)) (now (octets .exit)) (now (numbers .exit))
         ⌝ }
 {
     let mut values = [0u64; VALUES];
@@ -220,8 +220,8 @@ pub(crate) fn read_line(
     numbers: &mut [u32; MOST_NUMBERS],
 ) -> Read
     ensures { λ r. ⌜
-        Call.Line (now (line .entry)) ip port (now (octets .entry)) (now (numbers .entry)) r (now (call .exit))
-        (now (octets .exit)) (now (numbers .exit))
+        Call.Lent (now (line .entry)) ip port (now (call .entry)) (now (octets .entry)) (now (numbers .entry)) r
+        (now (call .exit)) (now (octets .exit)) (now (numbers .exit))
         ⌝ }
 {
     if line.len() > LONGEST {

@@ -50,8 +50,8 @@ pub enum Read {
 }
 
 // Reads a line of a session that has this address and port. A call is eight numbers (specs/Call); its datagram and its waiting
-// numbers go to the front of the lent buffers. After any other answer the buffers are as they were: a line is read into buffers of
-// its own first. Of an `open` nothing but its name is looked at.
+// numbers go to the front of the lent buffers as they are read. After any other answer the eight numbers are as they were, and the
+// octets and the waiting numbers hold what was written before the reading stopped. Of an `open` nothing but its name is looked at.
 pub fn read_call(
     line: &[u8],
     radio_ip: u32,
@@ -65,24 +65,7 @@ pub fn read_call(
         (now (call .exit)) (now (octets .exit)) (now (numbers .exit))
         ⌝ }
 {
-    let mut own = *call;
-    let mut own_octets = *octets;
-    let mut own_numbers = *numbers;
-    let read = call::read_line(
-        line,
-        radio_ip,
-        port,
-        &mut own,
-        &mut own_octets,
-        &mut own_numbers,
-    );
-    let Read::Call = read else {
-        return read;
-    };
-    *call = own;
-    *octets = own_octets;
-    *numbers = own_numbers;
-    read
+    call::read_line(line, radio_ip, port, call, octets, numbers)
 }
 
 // What an `open` asks for. One that can't be read has the settings of an `open` that says none.

@@ -1,9 +1,8 @@
 // Options, key=value, each at most once, into a lent list of values.
 ghost use mathlib.Core.Path.{_≡_};
-ghost use Prim.Native.Nat.{ℕ, _≤_, _<_};
+ghost use Prim.Native.Nat.{_≤_, _<_};
 ghost use lib.ListN.{length, drop};
 ghost use Rattle.text.specs.Split.{words};
-ghost use Rattle.text.specs.declared.Spelt.the-variants.{Number};
 ghost use Rattle.lines.specs.Option as Option;
 ghost use Rattle.lines.specs.Key.{keyCount, valueCount, mostNumbers};
 ghost use Rattle.lines.specs.declared.option.Took.the-variants.{Taken};
@@ -119,7 +118,7 @@ fn spelt_as(how: u8, w: &[u8], numbers: &mut [u32]) -> Spelt
     requires { ⌜ mostNumbers ≤ length (now numbers) ⌝ }
     ensures { λ r. ⌜
         (r ≡ Option.speltAs how (now (w .entry))) ×
-        ((n : ℕ) → r ≡ Number n → now (numbers .exit) ≡ Option.numbersAs how (now (w .entry)) (now (numbers .entry)))
+        (now (numbers .exit) ≡ Option.numbersSeenAs how (now (w .entry)) (now (numbers .entry)))
         ⌝ }
 {
     if how == READING {
@@ -147,7 +146,7 @@ fn value(key: usize, w: &[u8], numbers: &mut [u32]) -> Spelt
     requires { ⌜ (key < keyCount) × (mostNumbers ≤ length (now numbers)) ⌝ }
     ensures { λ r. ⌜
         (r ≡ Option.valueOf key (now (w .entry))) ×
-        ((n : ℕ) → r ≡ Number n → now (numbers .exit) ≡ Option.numbersFor key (now (w .entry)) (now (numbers .entry)))
+        (now (numbers .exit) ≡ Option.numbersSeenFor key (now (w .entry)) (now (numbers .entry)))
         ⌝ }
 {
     let how = SPELLINGS[key];

@@ -21,9 +21,10 @@ use Rattle.text.specs.Split.{parts, part}
 use Rattle.text.specs.declared.Spelt.{Spelt}
 use Rattle.text.specs.declared.Spelt.the-variants.{Number, Nothing}
 use Rattle.text.proofs.Splits.{last-part, next-part}
+use Rattle.values.specs.declared.waiting.Span.{Span}
 use Rattle.values.specs.declared.waiting.Span.the-variants.{Numbers, Neither}
 use Rattle.values.specs.Value.{given, number}
-use Rattle.values.specs.Waiting.{from, spanAt, spanOf, givenSpan, countAfter, numbersOf, waitingCount, waitingNumbers}
+use Rattle.values.specs.Waiting.{from, spanAt, spanOf, givenSpan, countAfter, numbersOf, seenAfter, waitingCount, waitingNumbers, waitingSeen}
 use Rattle.values.proofs.Values.{given-no, given-yes, number-most}
 
 -- ---- a span
@@ -121,10 +122,10 @@ pub record Listed (w : List ℕ) (d e : List ℕ) (n at : ℕ) : Type 0 where
   pub many : length done ≡ n
   pub stored : e ≡ written d 0 done
   pub counts : countAfter n (parts (is 44) (drop at w)) ≡ waitingCount w
-  pub numbers : done ++ numbersOf (parts (is 44) (drop at w)) ≡ waitingNumbers w
+  pub seen : done ++ seenAfter n (parts (is 44) (drop at w)) ≡ waitingSeen w
 
 pub listed-none : (w d : List ℕ) → Listed w d d 0 0
-unfolding waitingCount waitingNumbers
+unfolding waitingCount waitingSeen
 listed-none w d =
     record {
       within = omega arith;
@@ -134,13 +135,17 @@ listed-none w d =
       many = refl;
       stored = sym (written-none d 0);
       counts = refl;
-      numbers = refl;
+      seen = refl;
     }
 
 module _ (n : ℕ) (p : List ℕ) (ps : List (List ℕ)) where
   no-span : spanOf p ≡ Neither → countAfter n (p ∷ ps) ≡ Nothing
   unfolding countAfter givenSpan
   no-span e = rw e
+
+  none-seen : spanOf p ≡ Neither → seenAfter n (p ∷ ps) ≡ []
+  unfolding seenAfter givenSpan
+  none-seen e = rw e
 
   module _ (a k : ℕ) (e : spanOf p ≡ Numbers a k) where
     over : 8193 < n + k → countAfter n (p ∷ ps) ≡ Nothing
@@ -151,20 +156,30 @@ module _ (n : ℕ) (p : List ℕ) (ps : List (List ℕ)) where
     unfolding countAfter givenSpan
     under h = rw e (pick-t _ _ _ (le-leb _ _ h))
 
-    spanned : numbersOf (p ∷ ps) ≡ from a k ++ numbersOf ps
-    unfolding numbersOf givenSpan
-    spanned = rw e
+    over-seen : 8193 < n + k → seenAfter n (p ∷ ps) ≡ []
+    unfolding seenAfter givenSpan
+    over-seen h = rw e (pick-f _ _ _ (lt-leb _ _ h))
+
+    under-seen : n + k ≤ 8193 → seenAfter n (p ∷ ps) ≡ from a k ++ seenAfter (n + k) ps
+    unfolding seenAfter givenSpan
+    under-seen h = rw e (pick-t _ _ _ (le-leb _ _ h))
 
 module _ (w d l : List ℕ) (n at end : ℕ) (i : Listed w d l n at) (e : end ≡ at + run (other 44) (drop at w)) (b : end ≤ length w) where
   some : (P : Type 0) → ((ps : List (List ℕ)) → parts (is 44) (drop at w) ≡ part w at end ∷ ps → P) → P
   some P f = ⊎-elim (λ h. f _ (last-part 44 w at end e h)) (λ h. f _ (next-part 44 w at end e h)) (eq-or-lt-of-le b)
 
-  pub bad-span : spanOf (part w at end) ≡ Neither → Nothing ≡ waitingCount w
-  bad-span r = some _ (λ ps q. sym (no-span n _ ps r) ∙ ap (countAfter n) (sym q) ∙ i .counts)
+  -- nothing more is written
+  stopped : (ps : List (List ℕ)) → parts (is 44) (drop at w) ≡ ps → seenAfter n ps ≡ [] → l ≡ written d 0 (waitingSeen w)
+  stopped ps q h =
+      i .stored
+      ∙ ap (written d 0) (sym (append-nil (i .done)) ∙ ap (λ (x : List ℕ). i .done ++ x) (sym h ∙ ap (seenAfter n) (sym q)) ∙ i .seen)
+
+  pub bad-span : spanOf (part w at end) ≡ Neither → (Nothing ≡ waitingCount w) × (l ≡ written d 0 (waitingSeen w))
+  bad-span r = some _ (λ ps q. (sym (no-span n _ ps r) ∙ ap (countAfter n) (sym q) ∙ i .counts, stopped _ q (none-seen n _ ps r)))
 
   module _ (a k : ℕ) (r : spanOf (part w at end) ≡ Numbers a k) where
-    pub too-many : 8193 < n + k → Nothing ≡ waitingCount w
-    too-many h = some _ (λ ps q. sym (over n _ ps a k r h) ∙ ap (countAfter n) (sym q) ∙ i .counts)
+    pub too-many : 8193 < n + k → (Nothing ≡ waitingCount w) × (l ≡ written d 0 (waitingSeen w))
+    too-many h = some _ (λ ps q. (sym (over n _ ps a k r h) ∙ ap (countAfter n) (sym q) ∙ i .counts, stopped _ q (over-seen n _ ps a k r h)))
 
     module _ (h : n + k ≤ 8193) (m : List ℕ) (f : m ≡ written l n (from a k)) (room : 8193 ≤ length d) where
       stored-more : m ≡ written d 0 (i .done ++ from a k)
@@ -175,14 +190,14 @@ module _ (w d l : List ℕ) (n at end : ℕ) (i : Listed w d l n at) (e : end �
           ∙ ap (λ (x : ℕ). written (written d 0 (i .done)) x (from a k)) (let z : n ≡ 0 + length (i .done) = omega (arith, i .many) in z)
           ∙ written-then d 0 (i .done) (from a k) (omega (arith, i .many, t))
 
-      pub listed-all : end ≡ length w → (Number (n + k) ≡ waitingCount w) × (m ≡ written d 0 (waitingNumbers w))
-      unfolding countAfter numbersOf
+      pub listed-all : end ≡ length w → (Number (n + k) ≡ waitingCount w) × (m ≡ written d 0 (waitingSeen w))
+      unfolding countAfter seenAfter
       listed-all z =
           let q = last-part 44 w at end e z in (
             sym (under n _ [] a k r h) ∙ ap (countAfter n) (sym q) ∙ i .counts,
             stored-more
-                ∙ ap (λ (x : List ℕ). written d 0 (i .done ++ x)) (sym (append-nil (from a k)) ∙ sym (spanned n _ [] a k r) ∙ ap numbersOf (sym q))
-                ∙ ap (written d 0) (i .numbers),
+                ∙ ap (λ (x : List ℕ). written d 0 (i .done ++ x)) (sym (append-nil (from a k)) ∙ sym (under-seen n _ [] a k r h) ∙ ap (seenAfter n) (sym q))
+                ∙ ap (written d 0) (i .seen),
           )
 
       pub listed-more : (end ≡ length w → ⊥) → length m ≡ length l → Listed w d m (n + k) (end + 1)
@@ -198,8 +213,30 @@ module _ (w d l : List ℕ) (n at end : ℕ) (i : Listed w d l n at) (e : end �
             many = length-append (i .done) (from a k) ∙ omega (arith, i .many, length-tab k (λ (j : ℕ). a + j));
             stored = stored-more;
             counts = sym (under n _ ps a k r h) ∙ ap (countAfter n) (sym q) ∙ i .counts;
-            numbers =
-                append-assoc (i .done) (from a k) (numbersOf ps)
-                ∙ ap (λ (x : List ℕ). i .done ++ x) (sym (spanned n _ ps a k r) ∙ ap numbersOf (sym q))
-                ∙ i .numbers;
+            seen =
+                append-assoc (i .done) (from a k) (seenAfter (n + k) ps)
+                ∙ ap (λ (x : List ℕ). i .done ++ x) (sym (under-seen n _ ps a k r h) ∙ ap (seenAfter n) (sym q))
+                ∙ i .seen;
           }
+
+-- ---- of a word that can be read, all its numbers are written
+
+seen-all : (n : ℕ) (ps : List (List ℕ)) (m : ℕ) → countAfter n ps ≡ Number m → seenAfter n ps ≡ numbersOf ps
+unfolding countAfter seenAfter numbersOf givenSpan pick
+seen-all n [] m e = refl
+seen-all n (p ∷ ps) m e = go (λ k q. seen-all (n + k) ps m q) (spanOf p) e
+  where
+    held : ((k : ℕ) → countAfter (n + k) ps ≡ Number m → seenAfter (n + k) ps ≡ numbersOf ps) → (a k : ℕ) (b : Bool) → pick b (countAfter (n + k) ps) Nothing ≡ Number m
+        → pick b (from a k ++ seenAfter (n + k) ps) [] ≡ from a k ++ numbersOf ps
+    held f a k true e = ap (λ (x : List ℕ). from a k ++ x) (f k e)
+    held f a k false e = let z : _≡_ {A = ℕ} 0 1 = cc in absurd (omega arith)
+
+    go : ((k : ℕ) → countAfter (n + k) ps ≡ Number m → seenAfter (n + k) ps ≡ numbersOf ps)
+        → (x : Span) → givenSpan x (λ a k. pick (leb (n + k) 8193) (countAfter (n + k) ps) Nothing) Nothing ≡ Number m
+        → givenSpan x (λ a k. pick (leb (n + k) 8193) (from a k ++ seenAfter (n + k) ps) []) [] ≡ givenSpan x (λ a k. from a k ++ numbersOf ps) []
+    go f (Numbers a k) e = held f a k (leb (n + k) 8193) e
+    go f Neither e = refl
+
+pub seen-numbers : (w : List ℕ) (n : ℕ) → waitingCount w ≡ Number n → waitingSeen w ≡ waitingNumbers w
+unfolding waitingCount waitingSeen waitingNumbers
+seen-numbers w n e = seen-all 0 (parts (is 44) w) n e

@@ -1,7 +1,7 @@
 -- Octets in hexadecimal. Definitions only.
 use Prim.Native.Nat.{ℕ, _+_, _*_, _/_, _%_}
 use mathlib.Core.Bool.{Bool, _&&_}
-use mathlib.Core.List.{List}
+use mathlib.Core.List.{List, []}
 use lib.Dec.{ltb, leb, eqb}
 use lib.ListN.{length, getD}
 use Rattle.base.specs.Pick.{pick}
@@ -26,6 +26,14 @@ octetAt w k = 16 * digitOf (getD w (2 * k) 0) + digitOf (getD w (2 * k + 1) 0)
 -- those of `-` are none: it has not two digits
 unfoldable pub octetsOf : List ℕ → List ℕ
 octetsOf w = tab (length w / 2) (octetAt w)
+
+-- those of the pairs before the first octet that is no digit
+unfoldable pub pairsOf : List ℕ → List ℕ
+pairsOf w = tab (run hexDigit w / 2) (octetAt w)
+
+-- what is written while a word is read: a word over 4096 octets and one of odd length are not looked into
+unfoldable pub octetsSeen : List ℕ → List ℕ
+octetsSeen w = pick (leb (length w) 4096 && eqb (length w % 2) 0) (pairsOf w) []
 
 -- how many octets, at most 2048
 unfoldable pub octetCount : List ℕ → Spelt

@@ -42,9 +42,18 @@ unfoldable pub numbersOf : List (List ℕ) → List ℕ
 numbersOf [] = []
 numbersOf (p ∷ ps) = givenSpan (spanOf p) (λ a k. from a k ++ numbersOf ps) []
 
+-- those of the parts before the first that is no span, or with which there are more than 8193 in all
+unfoldable pub seenAfter : ℕ → List (List ℕ) → List ℕ
+seenAfter n [] = []
+seenAfter n (p ∷ ps) = givenSpan (spanOf p) (λ a k. pick (leb (n + k) 8193) (from a k ++ seenAfter (n + k) ps) []) []
+
 -- with commas between
 unfoldable pub waitingCount : List ℕ → Spelt
 waitingCount w = countAfter 0 (parts (is 44) w)
 
 unfoldable pub waitingNumbers : List ℕ → List ℕ
 waitingNumbers w = numbersOf (parts (is 44) w)
+
+-- what is written while a word is read
+unfoldable pub waitingSeen : List ℕ → List ℕ
+waitingSeen w = seenAfter 0 (parts (is 44) w)

@@ -1,19 +1,17 @@
 // Octets in hexadecimal, into a lent buffer.
 ghost use mathlib.Core.Path.{_≡_};
-ghost use mathlib.Core.Bool.{true};
-ghost use Prim.Native.Nat.{ℕ, _*_, _≤_};
+ghost use Prim.Native.Nat.{_*_, _≤_};
 ghost use lib.ListN.{length};
 ghost use Rattle.octets.specs.Written.{written};
-ghost use Rattle.text.specs.declared.Spelt.the-variants.{Number};
-ghost use Rattle.values.specs.Octets.{hexadecimal, octetsOf, octetCount};
+ghost use Rattle.values.specs.Octets.{hexadecimal, pairsOf, octetsSeen, octetCount};
 use text::Spelt;
 
-// Puts the octets that w spells at the front of room; false where one is no pair of digits.
+// Puts the octets that w spells at the front of room, up to the first that is no pair of digits; false where there is one.
 fn decode(w: &[u8], count: usize, room: &mut [u8]) -> bool
     requires { ⌜ (count * 2 ≡ length (now w)) × (count ≤ length (now room)) ⌝ }
     ensures { λ r. ⌜
         (r ≡ hexadecimal (now (w .entry))) ×
-        (r ≡ true → now (room .exit) ≡ written (now (room .entry)) 0 (octetsOf (now (w .entry))))
+        (now (room .exit) ≡ written (now (room .entry)) 0 (pairsOf (now (w .entry))))
         ⌝ }
 {
     let mut i = 0;
@@ -32,12 +30,12 @@ fn decode(w: &[u8], count: usize, room: &mut [u8]) -> bool
     true
 }
 
-// The octets of a word, or `-` for none: how many.
+// The octets of a word, or `-` for none: how many. A word that can't be read leaves what was written before its reading stopped.
 pub fn octets(w: &[u8], room: &mut [u8]) -> Spelt
     requires { ⌜ 2048 ≤ length (now room) ⌝ }
     ensures { λ r. ⌜
         (r ≡ octetCount (now (w .entry))) ×
-        ((n : ℕ) → r ≡ Number n → now (room .exit) ≡ written (now (room .entry)) 0 (octetsOf (now (w .entry))))
+        (now (room .exit) ≡ written (now (room .entry)) 0 (octetsSeen (now (w .entry))))
         ⌝ }
 {
     if check::same(w, b"-") {

@@ -1,10 +1,9 @@
 // The list of waiting numbers, into a lent buffer.
 ghost use mathlib.Core.Path.{_≡_};
-ghost use Prim.Native.Nat.{ℕ, _+_, _≤_};
+ghost use Prim.Native.Nat.{_+_, _≤_};
 ghost use lib.ListN.{length};
 ghost use Rattle.octets.specs.Written.{written};
-ghost use Rattle.text.specs.declared.Spelt.the-variants.{Number};
-ghost use Rattle.values.specs.Waiting.{from, spanOf, waitingCount, waitingNumbers};
+ghost use Rattle.values.specs.Waiting.{from, spanOf, waitingCount, waitingSeen};
 use super::reading::number;
 use text::Spelt;
 
@@ -49,12 +48,12 @@ fn fill(numbers: &mut [u32], at: usize, first: u64, k: u64)
     }
 }
 
-// With commas between: how many.
+// With commas between: how many. A word that can't be read leaves what was written before its reading stopped.
 pub fn waiting(w: &[u8], numbers: &mut [u32]) -> Spelt
     requires { ⌜ 8193 ≤ length (now numbers) ⌝ }
     ensures { λ r. ⌜
         (r ≡ waitingCount (now (w .entry))) ×
-        ((n : ℕ) → r ≡ Number n → now (numbers .exit) ≡ written (now (numbers .entry)) 0 (waitingNumbers (now (w .entry))))
+        (now (numbers .exit) ≡ written (now (numbers .entry)) 0 (waitingSeen (now (w .entry))))
         ⌝ }
 {
     let mut n: u64 = 0;

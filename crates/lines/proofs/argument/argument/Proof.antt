@@ -1,8 +1,7 @@
 -- `lines::argument::argument` holds what is spelt to the word's limit. Assumes nothing.
-use mathlib.Core.Path.{sym, ap, _∙_}
+use mathlib.Core.Path.{ap, _∙_}
 use Rattle.values.specs.Value.{upTo}
 use Rattle.lines.specs.Argument.{argument}
-use Rattle.values.proofs.Values.{up-to-number}
 use borrow.Author.Needs.{needs}
 use Rattle.lines.proofs.argument.argument.Statement.{statement}
 use Rattle.lines.proofs.argument.argument.Tie as tie
@@ -24,7 +23,7 @@ same-length c = search needs
 
 returns : tie.Need-returns
 unfolding argument
-returns c = (c .up-to .ensures ∙ ap (upTo _) (c .before .before .before .argument-as .ensures .0), λ n e. c .before .before .before .argument-as .ensures .1 _ (up-to-number _ _ n (sym (c .up-to .ensures) ∙ e)))
+returns c = (c .up-to .ensures ∙ ap (upTo _) (c .before .before .before .argument-as .ensures .0), c .before .before .before .argument-as .ensures .1)
 
 pub argument-spec : {M : Type 1} → statement M
 argument-spec =

@@ -65,7 +65,7 @@ same-length-4 : tie.Need-same-length-4 Inv-loop μ-loop
 same-length-4 c = search needs
 
 returns-2 : tie.Need-returns-2 Inv-loop μ-loop
-returns-2 c = not-read _ _ _ _ _ _ _ _ _ (c .before .before .before .before .before .before .before .before .before .before .before .loop .inv .0) (rw (c .before .before .before .before .before .before .before .before .before .before .before .loop .inv .1) at (c .before .before .before .before .before .before .before .before .before .before .loop-test .taken)) _ (c .before .before .before .before .before .before .before .before .before .word-of .ensures) (rw (c .before .before .before .before .before .before .before .before .before .word-of .ensures) (word-below (c .before .before .before .before .before .before .before .before .before .before .before .before .before .before .before .args .name) (c .before .before .before .before .before .before .before .before .before .before .before .loop .j))) _ _ (c .before .before .before .before .before .before .before .before .word-at .ensures) (c .before .before .before .before .before .before .before .if1 .left) _ (sym (c .before .before .before .before .argument .ensures .0) ∙ c .enum-told .given .1)
+returns-2 c = not-read _ _ _ _ _ _ _ _ _ (c .before .before .before .before .before .before .before .before .before .before .before .loop .inv .0) (rw (c .before .before .before .before .before .before .before .before .before .before .before .loop .inv .1) at (c .before .before .before .before .before .before .before .before .before .before .loop-test .taken)) _ (c .before .before .before .before .before .before .before .before .before .word-of .ensures) (rw (c .before .before .before .before .before .before .before .before .before .word-of .ensures) (word-below (c .before .before .before .before .before .before .before .before .before .before .before .before .before .before .before .args .name) (c .before .before .before .before .before .before .before .before .before .before .before .loop .j))) _ _ (c .before .before .before .before .before .before .before .before .word-at .ensures) (c .before .before .before .before .before .before .before .if1 .left) _ (sym (c .before .before .before .before .argument .ensures .0) ∙ c .enum-told .given .1) (c .before .before .before .before .argument .ensures .1)
 
 add-values : tie.Need-add-values Inv-loop μ-loop
 add-values c = omega (arith, four-words (c .before .before .before .before .before .before .before .before .before .before .before .before .before .before .before .before .args .name), c .before .before .before .before .before .before .before .before .before .before .before .before .loop .inv .1)
@@ -83,7 +83,7 @@ loop-less : tie.Need-loop-less Inv-loop μ-loop
 loop-less c = search needs
 
 loop-again : tie.Need-loop-again Inv-loop μ-loop
-loop-again c = (read-on _ _ _ _ _ _ _ _ _ (c .before .before .before .before .before .before .before .before .before .before .before .before .loop .inv .0) (rw (c .before .before .before .before .before .before .before .before .before .before .before .before .loop .inv .1) at (c .before .before .before .before .before .before .before .before .before .before .before .loop-test .taken)) _ (c .before .before .before .before .before .before .before .before .before .before .word-of .ensures) (rw (c .before .before .before .before .before .before .before .before .before .before .word-of .ensures) (word-below (c .before .before .before .before .before .before .before .before .before .before .before .before .before .before .before .before .args .name) (c .before .before .before .before .before .before .before .before .before .before .before .before .loop .j))) _ _ (c .before .before .before .before .before .before .before .before .before .word-at .ensures) (c .before .before .before .before .before .before .before .before .if1 .left) _ _ (sym (c .before .before .before .before .before .argument .ensures .0) ∙ c .before .v .given .1) (c .before .before .before .before .before .argument .ensures .1 _ (c .before .v .given .1)) (c .before .before .before .before .before .argument .kept .1 .1 .0), c .before .before .before .before .before .before .before .before .before .before .before .before .loop .inv .1)
+loop-again c = (read-on _ _ _ _ _ _ _ _ _ (c .before .before .before .before .before .before .before .before .before .before .before .before .loop .inv .0) (rw (c .before .before .before .before .before .before .before .before .before .before .before .before .loop .inv .1) at (c .before .before .before .before .before .before .before .before .before .before .before .loop-test .taken)) _ (c .before .before .before .before .before .before .before .before .before .before .word-of .ensures) (rw (c .before .before .before .before .before .before .before .before .before .before .word-of .ensures) (word-below (c .before .before .before .before .before .before .before .before .before .before .before .before .before .before .before .before .args .name) (c .before .before .before .before .before .before .before .before .before .before .before .before .loop .j))) _ _ (c .before .before .before .before .before .before .before .before .before .word-at .ensures) (c .before .before .before .before .before .before .before .before .if1 .left) _ _ (sym (c .before .before .before .before .before .argument .ensures .0) ∙ c .before .v .given .1) (c .before .before .before .before .before .argument .ensures .1) (c .before .before .before .before .before .argument .kept .1 .1 .0), c .before .before .before .before .before .before .before .before .before .before .before .before .loop .inv .1)
 
 same-length-5 : tie.Need-same-length-5 Inv-loop μ-loop
 same-length-5 c = search needs

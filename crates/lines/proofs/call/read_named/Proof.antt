@@ -1,6 +1,7 @@
 -- `lines::call::read_named` reads the call's words, then its options, and writes what they say. Assumes nothing.
 use Prim.Native.Nat.{_+_}
 use mathlib.Core.Path.{refl}
+use mathlib.Core.List.{[]}
 use native.Mathlib.Omega.{arith}
 use Rattle.lines.specs.Key.{keyCount}
 use Rattle.lines.specs.Name.{ends}
@@ -24,7 +25,7 @@ same-length : tie.Need-same-length
 same-length c = search needs
 
 returns : tie.Need-returns
-returns c = rw (c .expected-word .ensures) (not-read _ _ _ _ _ _ _ _ _ _ _ (c .before .before .before .before .before .arguments .ensures) (c .before .if1 .taken) _ _ _)
+returns c = rw (c .expected-word .ensures) (not-read _ _ _ _ _ _ _ _ _ _ _ _ (c .before .before .before .before .before .arguments .ensures) (c .before .if1 .taken))
 
 mul-options : tie.Need-mul-options
 mul-options c = search needs
@@ -48,7 +49,7 @@ same-length-3 : tie.Need-same-length-3
 same-length-3 c = search needs
 
 returns-2 : tie.Need-returns-2
-returns-2 c = unknown-word _ _ _ _ _ _ _ _ _ _ _ (c .before .before .before .before .before .before .before .before .before .before .before .before .arguments .ensures) (c .before .before .before .before .before .before .before .before .if1 .left) _ refl _ _ _ (c .before .before .before .before .before .options .ensures .0) (c .enum-told .given .1) _ _ _
+returns-2 c = unknown-word _ _ _ _ _ _ _ _ _ _ _ _ (c .before .before .before .before .before .before .before .before .before .before .before .before .arguments .ensures) (c .before .before .before .before .before .before .before .before .if1 .left) _ refl _ _ _ (c .before .before .before .before .before .options .ensures .0) (c .enum-told .given .1)
 
 enum-known-took : tie.Need-enum-known-took
 enum-known-took c = search needs
@@ -60,7 +61,7 @@ same-length-5 : tie.Need-same-length-5
 same-length-5 c = search needs
 
 returns-3 : tie.Need-returns-3
-returns-3 c = unread-value _ _ _ _ _ _ _ _ _ _ _ (c .before .before .before .before .before .before .before .before .before .before .before .before .before .arguments .ensures) (c .before .before .before .before .before .before .before .before .before .if1 .left) _ refl _ _ _ (c .before .before .before .before .before .before .options .ensures .0) _ (c .before .took .given .1) _ _ _
+returns-3 c = unread-value _ _ _ _ _ _ _ _ _ _ _ _ (c .before .before .before .before .before .before .before .before .before .before .before .before .before .arguments .ensures) (c .before .before .before .before .before .before .before .before .before .if1 .left) _ refl _ _ _ (c .before .before .before .before .before .before .options .ensures .0) _ (c .before .took .given .1)
 
 enum-told-2 : tie.Need-enum-told-2
 enum-told-2 c = search needs
@@ -72,7 +73,7 @@ same-length-7 : tie.Need-same-length-7
 same-length-7 c = search needs
 
 returns-4 : tie.Need-returns-4
-returns-4 c = state _ _ _ _ _ _ _ _ _ _ _ (c .before .before .before .before .before .before .before .before .before .before .before .before .before .arguments .ensures) (c .before .before .before .before .before .before .before .before .before .if1 .left) _ refl _ _ _ (c .before .before .before .before .before .before .options .ensures .0) (c .before .enum-told2 .given .1) (c .if2 .taken) _ _ _
+returns-4 c = state _ _ _ _ _ _ _ _ _ _ _ _ (c .before .before .before .before .before .before .before .before .before .before .before .before .before .arguments .ensures) (c .before .before .before .before .before .before .before .before .before .if1 .left) _ refl _ _ _ (c .before .before .before .before .before .before .options .ensures .0) (c .before .enum-told2 .given .1) (c .if2 .taken)
 
 slice-aggregate-call-of : tie.Need-slice-aggregate-call-of
 slice-aggregate-call-of c = search needs
@@ -84,7 +85,7 @@ slice-aggregate-put-datagram : tie.Need-slice-aggregate-put-datagram
 slice-aggregate-put-datagram c = search needs
 
 put-datagram-requires : tie.Need-put-datagram-requires
-put-datagram-requires c κs = (search needs, search needs, small _ _ (held _ 0 0 _ _ _ _ _ _ _ _ (c .before .before .before .before .before .before .before .before .before .before .before .before .before .before .before .before .before .arguments .ensures) (c .before .before .before .before .before .before .before .before .before .before .before .before .before .if1 .left) _ refl _ _ _ (c .before .before .before .before .before .before .before .before .before .before .options .ensures .0) (c .before .before .before .before .before .enum-told2 .given .1)))
+put-datagram-requires c κs = (search needs, search needs, small _ _ (held _ 0 0 _ [] _ _ _ _ _ _ _ (c .before .before .before .before .before .before .before .before .before .before .before .before .before .before .before .before .before .arguments .ensures) (c .before .before .before .before .before .before .before .before .before .before .before .before .before .if1 .left) _ refl _ _ _ (c .before .before .before .before .before .before .before .before .before .before .options .ensures .0) (c .before .before .before .before .before .enum-told2 .given .1)))
 
 same-length-8 : tie.Need-same-length-8
 same-length-8 c = search needs
@@ -93,7 +94,7 @@ same-length-9 : tie.Need-same-length-9
 same-length-9 c = search needs
 
 returns-5 : tie.Need-returns-5
-returns-5 c = done _ _ _ _ _ _ _ _ _ _ _ (c .before .before .before .before .before .before .before .before .before .before .before .before .before .before .before .before .before .before .before .before .arguments .ensures) (c .before .before .before .before .before .before .before .before .before .before .before .before .before .before .before .before .if1 .left) _ refl _ _ _ (c .before .before .before .before .before .before .before .before .before .before .before .before .before .options .ensures .0) (c .before .before .before .before .before .before .before .before .enum-told2 .given .1) (c .before .before .before .before .before .before .before .if2 .left) (c .before .before .before .before .before .before .before .before .before .before .before .before .before .before .before .before .before .before .before .before .before .before .before .before .before .before .fits .ip .fits) _ _ (c .before .before .before .before .before .call-of .ensures) (c .before .before .put-datagram .ensures)
+returns-5 c = done _ _ _ _ _ _ _ _ _ _ _ _ (c .before .before .before .before .before .before .before .before .before .before .before .before .before .before .before .before .before .before .before .before .arguments .ensures) (c .before .before .before .before .before .before .before .before .before .before .before .before .before .before .before .before .if1 .left) _ refl _ _ _ (c .before .before .before .before .before .before .before .before .before .before .before .before .before .options .ensures .0) (c .before .before .before .before .before .before .before .before .enum-told2 .given .1) (c .before .before .before .before .before .before .before .if2 .left) (c .before .before .before .before .before .before .before .before .before .before .before .before .before .before .before .before .before .before .before .before .before .before .before .before .before .before .fits .ip .fits) _ _ (c .before .before .before .before .before .call-of .ensures) (c .before .before .put-datagram .ensures)
 
 pub read-named-spec : {M : Type 1} → statement M
 read-named-spec =

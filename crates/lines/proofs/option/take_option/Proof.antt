@@ -7,7 +7,7 @@ use lib.Seq.{length-take-le}
 use native.Mathlib.Omega.{arith}
 use Rattle.text.specs.Name.{place}
 use Rattle.text.proofs.Splits.{to-the-end}
-use Rattle.lines.specs.Option.{valueOf, numbersFor}
+use Rattle.lines.specs.Option.{valueOf, numbersSeenFor}
 use Rattle.lines.proofs.Names.{key-names}
 use Rattle.lines.proofs.Options.{no-equals, key-below, key-above, said-before, unread-value, taken}
 use borrow.Author.Needs.{needs}
@@ -18,7 +18,7 @@ find-requires : tie.Need-find-requires
 find-requires c κs = search needs
 
 returns : tie.Need-returns
-returns c = no-equals _ _ _ _ _ _ _ _ (c .before .find .ensures .0) (c .if1 .taken)
+returns c = no-equals _ _ _ _ _ _ _ (c .before .find .ensures .0) (c .if1 .taken)
 
 slice-aggregate-place-of : tie.Need-slice-aggregate-place-of
 slice-aggregate-place-of c = sym (length-take-le (c .before .before .find .result) (c .before .before .before .before .before .before .args .w .now) (c .before .before .find .ensures .1))
@@ -30,10 +30,10 @@ place-of-requires : tie.Need-place-of-requires
 place-of-requires c κs = search needs
 
 returns-2 : tie.Need-returns-2
-returns-2 c = key-below _ _ _ _ _ _ _ _ (c .before .before .before .before .before .find .ensures .0) (search needs) _ (c .before .place-of .ensures ∙ ap (place (take (c .before .before .before .before .before .find .result) (c .before .before .before .before .before .before .before .before .before .args .w .now))) key-names) (c .if2 .taken)
+returns-2 c = key-below _ _ _ _ _ _ _ (c .before .before .before .before .before .find .ensures .0) (search needs) _ (c .before .place-of .ensures ∙ ap (place (take (c .before .before .before .before .before .find .result) (c .before .before .before .before .before .before .before .before .before .args .w .now))) key-names) (c .if2 .taken)
 
 returns-3 : tie.Need-returns-3
-returns-3 c = key-above _ _ _ _ _ _ _ _ (c .before .before .before .before .before .before .find .ensures .0) (search needs) _ (c .before .before .place-of .ensures ∙ ap (place (take (c .before .before .before .before .before .before .find .result) (c .before .before .before .before .before .before .before .before .before .before .args .w .now))) key-names) (c .before .if2 .left) (c .if3 .taken)
+returns-3 c = key-above _ _ _ _ _ _ _ (c .before .before .before .before .before .before .find .ensures .0) (search needs) _ (c .before .before .place-of .ensures ∙ ap (place (take (c .before .before .before .before .before .before .find .result) (c .before .before .before .before .before .before .before .before .before .before .args .w .now))) key-names) (c .before .if2 .left) (c .if3 .taken)
 
 add-mark : tie.Need-add-mark
 add-mark c = search needs
@@ -45,7 +45,7 @@ slice-read-if4 : tie.Need-slice-read-if4
 slice-read-if4 c = search needs
 
 returns-4 : tie.Need-returns-4
-returns-4 c = said-before _ _ _ _ _ _ _ _ (c .before .before .before .before .before .before .before .before .find .ensures .0) (search needs) _ (c .before .before .before .before .place-of .ensures ∙ ap (place (take (c .before .before .before .before .before .before .before .before .find .result) (c .before .before .before .before .before .before .before .before .before .before .before .before .args .w .now))) key-names) (c .before .before .before .if2 .left) (c .before .before .if3 .left) (c .if4 .taken)
+returns-4 c = said-before _ _ _ _ _ _ _ (c .before .before .before .before .before .before .before .before .find .ensures .0) (search needs) _ (c .before .before .before .before .place-of .ensures ∙ ap (place (take (c .before .before .before .before .before .before .before .before .find .result) (c .before .before .before .before .before .before .before .before .before .before .before .before .args .w .now))) key-names) (c .before .before .before .if2 .left) (c .before .before .if3 .left) (c .if4 .taken)
 
 add-start : tie.Need-add-start
 add-start c = search needs
@@ -75,7 +75,9 @@ same-length : tie.Need-same-length
 same-length c = search needs
 
 returns-5 : tie.Need-returns-5
-returns-5 c = unread-value _ _ _ _ _ _ _ _ (c .before .before .before .before .before .before .before .before .before .before .before .before .before .before .before .find .ensures .0) (search needs) _ (c .before .before .before .before .before .before .before .before .before .before .before .place-of .ensures ∙ ap (place (take (c .before .before .before .before .before .before .before .before .before .before .before .before .before .before .before .find .result) (c .before .before .before .before .before .before .before .before .before .before .before .before .before .before .before .before .before .before .before .args .w .now))) key-names) (c .before .before .before .before .before .before .before .before .before .before .if2 .left) (c .before .before .before .before .before .before .before .before .before .if3 .left) (c .before .before .before .before .before .before .before .if4 .left) (sym (c .before .before .before .before .value .ensures .0 ∙ ap (valueOf (c .before .before .before .before .before .before .before .before .before .before .before .place-of .result)) (to-the-end (c .before .before .before .before .before .before .before .before .before .before .before .before .before .before .before .before .before .before .before .args .w .now) (c .before .before .before .before .before .before .before .before .before .before .before .before .before .before .before .find .result + 1))) ∙ c .enum-told .given .1)
+returns-5 c =
+    let t = to-the-end (c .before .before .before .before .before .before .before .before .before .before .before .before .before .before .before .before .before .before .before .args .w .now) (c .before .before .before .before .before .before .before .before .before .before .before .before .before .before .before .find .result + 1) in
+    unread-value _ _ _ _ _ _ _ (c .before .before .before .before .before .before .before .before .before .before .before .before .before .before .before .find .ensures .0) (search needs) _ (c .before .before .before .before .before .before .before .before .before .before .before .place-of .ensures ∙ ap (place (take (c .before .before .before .before .before .before .before .before .before .before .before .before .before .before .before .find .result) (c .before .before .before .before .before .before .before .before .before .before .before .before .before .before .before .before .before .before .before .args .w .now))) key-names) (c .before .before .before .before .before .before .before .before .before .before .if2 .left) (c .before .before .before .before .before .before .before .before .before .if3 .left) (c .before .before .before .before .before .before .before .if4 .left) _ (c .before .before .before .before .value .ensures .1 ∙ ap (λ (v : List ℕ). numbersSeenFor (c .before .before .before .before .before .before .before .before .before .before .before .place-of .result) v (c .before .before .before .before .before .before .before .before .before .before .before .before .before .before .before .before .before .before .before .args .numbers .now)) t) (sym (c .before .before .before .before .value .ensures .0 ∙ ap (valueOf (c .before .before .before .before .before .before .before .before .before .before .before .place-of .result)) t) ∙ c .enum-told .given .1)
 
 add-values : tie.Need-add-values
 add-values c = search needs
@@ -101,7 +103,7 @@ same-length-3 c = search needs
 returns-6 : tie.Need-returns-6
 returns-6 c =
     let t = to-the-end (c .before .before .before .before .before .before .before .before .before .before .before .before .before .before .before .before .before .before .before .before .args .w .now) (c .before .before .before .before .before .before .before .before .before .before .before .before .before .before .before .before .find .result + 1) in
-    taken _ _ _ _ _ _ _ _ (c .before .before .before .before .before .before .before .before .before .before .before .before .before .before .before .before .find .ensures .0) (search needs) _ (c .before .before .before .before .before .before .before .before .before .before .before .before .place-of .ensures ∙ ap (place (take (c .before .before .before .before .before .before .before .before .before .before .before .before .before .before .before .before .find .result) (c .before .before .before .before .before .before .before .before .before .before .before .before .before .before .before .before .before .before .before .before .args .w .now))) key-names) (c .before .before .before .before .before .before .before .before .before .before .before .if2 .left) (c .before .before .before .before .before .before .before .before .before .before .if3 .left) (c .before .before .before .before .before .before .before .before .if4 .left) _ (sym (c .before .before .before .before .before .value .ensures .0 ∙ ap (valueOf (c .before .before .before .before .before .before .before .before .before .before .before .before .place-of .result)) t) ∙ c .before .v .given .1) refl (c .before .before .before .before .before .value .ensures .1 _ (c .before .v .given .1) ∙ ap (λ (v : List ℕ). numbersFor (c .before .before .before .before .before .before .before .before .before .before .before .before .place-of .result) v (c .before .before .before .before .before .before .before .before .before .before .before .before .before .before .before .before .before .before .before .before .args .numbers .now)) t)
+    taken _ _ _ _ _ _ _ (c .before .before .before .before .before .before .before .before .before .before .before .before .before .before .before .before .find .ensures .0) (search needs) _ (c .before .before .before .before .before .before .before .before .before .before .before .before .place-of .ensures ∙ ap (place (take (c .before .before .before .before .before .before .before .before .before .before .before .before .before .before .before .before .find .result) (c .before .before .before .before .before .before .before .before .before .before .before .before .before .before .before .before .before .before .before .before .args .w .now))) key-names) (c .before .before .before .before .before .before .before .before .before .before .before .if2 .left) (c .before .before .before .before .before .before .before .before .before .before .if3 .left) (c .before .before .before .before .before .before .before .before .if4 .left) _ (c .before .before .before .before .before .value .ensures .1 ∙ ap (λ (v : List ℕ). numbersSeenFor (c .before .before .before .before .before .before .before .before .before .before .before .before .place-of .result) v (c .before .before .before .before .before .before .before .before .before .before .before .before .before .before .before .before .before .before .before .before .args .numbers .now)) t) _ (sym (c .before .before .before .before .before .value .ensures .0 ∙ ap (valueOf (c .before .before .before .before .before .before .before .before .before .before .before .before .place-of .result)) t) ∙ c .before .v .given .1) refl
 
 pub take-option-spec : {M : Type 1} → statement M
 take-option-spec =

@@ -1,8 +1,7 @@
 -- `lines::option::value` holds what is spelt to the key's limit. Assumes nothing.
-use mathlib.Core.Path.{sym, ap, _∙_}
+use mathlib.Core.Path.{ap, _∙_}
 use Rattle.values.specs.Value.{upTo}
 use Rattle.lines.specs.Option.{valueOf}
-use Rattle.values.proofs.Values.{up-to-number}
 use borrow.Author.Needs.{needs}
 use Rattle.lines.proofs.option.value.Statement.{statement}
 use Rattle.lines.proofs.option.value.Tie as tie
@@ -27,7 +26,7 @@ same-length c = search needs
 
 returns : tie.Need-returns
 unfolding valueOf
-returns c = (c .up-to .ensures ∙ ap (upTo _) (c .before .before .before .spelt-as .ensures .0), λ n e. c .before .before .before .spelt-as .ensures .1 _ (up-to-number _ _ n (sym (c .up-to .ensures) ∙ e)))
+returns c = (c .up-to .ensures ∙ ap (upTo _) (c .before .before .before .spelt-as .ensures .0), c .before .before .before .spelt-as .ensures .1)
 
 pub value-spec : {M : Type 1} → statement M
 value-spec =

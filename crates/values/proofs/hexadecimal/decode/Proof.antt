@@ -1,7 +1,6 @@
 -- `values::hexadecimal::decode` reads a pair of digits a turn. Assumes nothing.
 use Prim.Native.Nat.{ℕ, _+_, _*_, _-_, _≤_}
 use mathlib.Core.Path.{_≡_, refl, sym, ap, _∙_}
-use mathlib.Core.Bool.{true≢false}
 use mathlib.Core.List.{List, _++_}
 use lib.ListN.{length, drop, set, length-set}
 use native.Mathlib.Omega.{arith}
@@ -36,7 +35,9 @@ same-length : tie.Need-same-length Inv-loop μ-loop
 same-length c = c .before .before .before .before .loop .inv .1
 
 returns : tie.Need-returns Inv-loop μ-loop
-returns c = (sym (first-bad (c .before .before .before .before .before .before .before .args .w .now) (c .before .before .before .before .loop .i) (c .before .before .before .before .before .before .before .args .count) (c .before .before .before .before .before .before .before .pre .0) (c .before .before .before .before .loop .inv .2) (search needs) (omega (arith, c .before .digit .ensures .0))), λ t. absurd (true≢false (sym t)))
+returns c =
+    let h = first-bad (c .before .before .before .before .before .before .before .args .w .now) (c .before .before .before .before .loop .i) (c .before .before .before .before .before .before .before .args .count) (c .before .before .before .before .before .before .before .pre .0) (c .before .before .before .before .loop .inv .2) (search needs) (omega (arith, c .before .digit .ensures .0)) in
+    (sym (h .0), all-stored _ _ _ _ (h .1) (c .before .before .before .before .loop .inv .3))
 
 mul-digit-2 : tie.Need-mul-digit-2 Inv-loop μ-loop
 mul-digit-2 c = search needs
@@ -54,7 +55,9 @@ same-length-2 : tie.Need-same-length-2 Inv-loop μ-loop
 same-length-2 c = c .before .before .before .before .before .before .before .loop .inv .1
 
 returns-2 : tie.Need-returns-2 Inv-loop μ-loop
-returns-2 c = (sym (second-bad (c .before .before .before .before .before .before .before .before .before .before .args .w .now) (c .before .before .before .before .before .before .before .loop .i) (c .before .before .before .before .before .before .before .before .before .before .args .count) (c .before .before .before .before .before .before .before .before .before .before .pre .0) (c .before .before .before .before .before .before .before .loop .inv .2) (search needs) (omega (arith, c .before .before .before .before .digit .ensures .0)) (omega (arith, c .before .digit2 .ensures .0))), λ t. absurd (true≢false (sym t)))
+returns-2 c =
+    let h = second-bad (c .before .before .before .before .before .before .before .before .before .before .args .w .now) (c .before .before .before .before .before .before .before .loop .i) (c .before .before .before .before .before .before .before .before .before .before .args .count) (c .before .before .before .before .before .before .before .before .before .before .pre .0) (c .before .before .before .before .before .before .before .loop .inv .2) (search needs) (omega (arith, c .before .before .before .before .digit .ensures .0)) (omega (arith, c .before .digit2 .ensures .0)) in
+    (sym (h .0), all-stored _ _ _ _ (h .1) (c .before .before .before .before .before .before .before .loop .inv .3))
 
 mul-room : tie.Need-mul-room Inv-loop μ-loop
 mul-room c = search needs
@@ -84,8 +87,8 @@ same-length-3 c = c .before .loop .inv .1
 
 returns-3 : tie.Need-returns-3 Inv-loop μ-loop
 returns-3 c =
-    let a = c .before .before .before .before .args in
-    (sym (all-digits (c .before .before .before .before .args .w .now) (c .before .loop .i) (c .before .before .before .before .args .count) (c .before .before .before .before .pre .0) (c .before .loop .inv .2) (search needs)), λ t. all-stored _ _ _ _ _ (c .before .before .before .before .pre .0) (omega arith) (c .before .loop .inv .3))
+    let h = all-digits (c .before .before .before .before .args .w .now) (c .before .loop .i) (c .before .before .before .before .args .count) (c .before .before .before .before .pre .0) (c .before .loop .inv .2) (search needs) in
+    (sym (h .0), all-stored _ _ _ _ (h .1) (c .before .loop .inv .3))
 
 pub decode-spec : {M : Type 1} → statement M
 decode-spec =

@@ -1,6 +1,6 @@
 -- `values::waiting::waiting` reads the parts one by one. Assumes nothing.
 use Prim.Native.Nat.{ℕ, _+_, _-_}
-use mathlib.Core.Path.{_≡_, sym, ap, _∙_}
+use mathlib.Core.Path.{sym, ap, _∙_}
 use lib.ListN.{length}
 use native.Mathlib.Omega.{arith}
 use Rattle.text.specs.Run.{run, other}
@@ -56,7 +56,7 @@ same-length : tie.Need-same-length Inv-loop μ-loop
 same-length c = search needs
 
 returns : tie.Need-returns Inv-loop μ-loop
-returns c = (bad-span _ _ _ _ _ _ (c .before .before .before .before .before .before .loop .inv) (ap (λ (n : ℕ). c .before .before .before .before .before .before .loop .at + n) (c .before .before .before .before .find .ensures .0 ∙ ap (run (other 44)) (to-the-end (c .before .before .before .before .before .before .before .before .before .args .w .now) (c .before .before .before .before .before .before .loop .at)))) (search needs) (sym (c .before .before .span-of .ensures) ∙ c .enum-told .given .1), λ n e. let z : _≡_ {A = ℕ} 0 1 = cc in absurd (omega arith))
+returns c = bad-span _ _ _ _ _ _ (c .before .before .before .before .before .before .loop .inv) (ap (λ (n : ℕ). c .before .before .before .before .before .before .loop .at + n) (c .before .before .before .before .find .ensures .0 ∙ ap (run (other 44)) (to-the-end (c .before .before .before .before .before .before .before .before .before .args .w .now) (c .before .before .before .before .before .before .loop .at)))) (search needs) (sym (c .before .before .span-of .ensures) ∙ c .enum-told .given .1)
 
 add-if1 : tie.Need-add-if1 Inv-loop μ-loop
 add-if1 c = let h = span-fits _ _ _ (sym (c .before .before .before .span-of .ensures) ∙ c .before .first .given .1) in omega (arith, c .before .before .before .before .before .before .before .loop .inv .most)
@@ -65,7 +65,7 @@ same-length-2 : tie.Need-same-length-2 Inv-loop μ-loop
 same-length-2 c = search needs
 
 returns-2 : tie.Need-returns-2 Inv-loop μ-loop
-returns-2 c = (too-many _ _ _ _ _ _ (c .before .before .before .before .before .before .before .before .loop .inv) (ap (λ (n : ℕ). c .before .before .before .before .before .before .before .before .loop .at + n) (c .before .before .before .before .before .before .find .ensures .0 ∙ ap (run (other 44)) (to-the-end (c .before .before .before .before .before .before .before .before .before .before .before .args .w .now) (c .before .before .before .before .before .before .before .before .loop .at)))) (search needs) _ _ (sym (c .before .before .before .before .span-of .ensures) ∙ c .before .before .first .given .1) (c .if1 .taken), λ n e. let z : _≡_ {A = ℕ} 0 1 = cc in absurd (omega arith))
+returns-2 c = too-many _ _ _ _ _ _ (c .before .before .before .before .before .before .before .before .loop .inv) (ap (λ (n : ℕ). c .before .before .before .before .before .before .before .before .loop .at + n) (c .before .before .before .before .before .before .find .ensures .0 ∙ ap (run (other 44)) (to-the-end (c .before .before .before .before .before .before .before .before .before .before .before .args .w .now) (c .before .before .before .before .before .before .before .before .loop .at)))) (search needs) _ _ (sym (c .before .before .before .before .span-of .ensures) ∙ c .before .before .first .given .1) (c .if1 .taken)
 
 fill-requires : tie.Need-fill-requires Inv-loop μ-loop
 fill-requires c κs = let h = span-fits _ _ _ (sym (c .before .before .before .before .before .span-of .ensures) ∙ c .before .before .before .first .given .1) in (omega (arith, c .before .before .before .before .before .before .before .before .before .loop .inv .same-length), omega arith)
@@ -78,8 +78,7 @@ same-length-3 c = search needs
 
 returns-3 : tie.Need-returns-3 Inv-loop μ-loop
 returns-3 c =
-    let h = listed-all _ _ _ _ _ _ (c .before .before .before .before .before .before .before .before .before .before .before .before .before .loop .inv) (ap (λ (n : ℕ). c .before .before .before .before .before .before .before .before .before .before .before .before .before .loop .at + n) (c .before .before .before .before .before .before .before .before .before .before .before .find .ensures .0 ∙ ap (run (other 44)) (to-the-end (c .before .before .before .before .before .before .before .before .before .before .before .before .before .before .before .before .args .w .now) (c .before .before .before .before .before .before .before .before .before .before .before .before .before .loop .at)))) (search needs) _ _ (sym (c .before .before .before .before .before .before .before .before .before .span-of .ensures) ∙ c .before .before .before .before .before .before .before .first .given .1) (c .before .before .before .before .before .if1 .left) _ (c .before .before .before .fill .ensures) (c .before .before .before .before .before .before .before .before .before .before .before .before .before .before .before .before .pre) (c .if2 .taken) in
-    (h .0, λ n e. h .1)
+    listed-all _ _ _ _ _ _ (c .before .before .before .before .before .before .before .before .before .before .before .before .before .loop .inv) (ap (λ (n : ℕ). c .before .before .before .before .before .before .before .before .before .before .before .before .before .loop .at + n) (c .before .before .before .before .before .before .before .before .before .before .before .find .ensures .0 ∙ ap (run (other 44)) (to-the-end (c .before .before .before .before .before .before .before .before .before .before .before .before .before .before .before .before .args .w .now) (c .before .before .before .before .before .before .before .before .before .before .before .before .before .loop .at)))) (search needs) _ _ (sym (c .before .before .before .before .before .before .before .before .before .span-of .ensures) ∙ c .before .before .before .before .before .before .before .first .given .1) (c .before .before .before .before .before .if1 .left) _ (c .before .before .before .fill .ensures) (c .before .before .before .before .before .before .before .before .before .before .before .before .before .before .before .before .pre) (c .if2 .taken)
 
 add-at : tie.Need-add-at Inv-loop μ-loop
 add-at c = search needs
