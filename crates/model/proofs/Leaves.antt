@@ -37,12 +37,20 @@ use Rattle.model.proofs.Sends.{due-steady, stepped-steady, stop-steady}
 abbrev Passes : Session → Step Session → Type 0
 Passes s x = x .state ≡ byPass s (x .state)
 
+soft-leaves : (s : Session) (d : List ℕ) → Passes s (stallSoft s d)
+unfolding stallSoft
+soft-leaves s d = refl
+
+hard-leaves : (s : Session) (d : List ℕ) → Passes s (stallHard s d)
+unfolding stallHard
+hard-leaves s d = refl
+
 passed-leaves : (s : Session) (now : ℕ) (d : List ℕ) → Passes s (passed s now d)
-unfolding passed stallSoft stallHard
+unfolding passed
 passed-leaves s now d =
     pick-either _ _ _ (Passes s) (λ _. refl) λ _.
-    pick-either _ _ _ (Passes s) (λ _. refl) λ _.
-    pick-either _ _ _ (Passes s) (λ _. refl) λ _.
+    pick-either _ (stallSoft s d) _ (Passes s) (λ _. soft-leaves s d) λ _.
+    pick-either _ (stallHard s d) _ (Passes s) (λ _. hard-leaves s d) λ _.
     ap (with-common s) (due-steady now (s .common) .kept)
 
 module _ (st : State) (i : Incoming) (d : List ℕ) where

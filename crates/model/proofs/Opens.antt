@@ -46,6 +46,11 @@ pub opened-not : (s : Settings) (now : ℕ) → accepts s ≡ false → opened s
 unfolding opened
 opened-not s now refused = pick-f (accepts s) (newSession (khzOf (s .«sample_rate_hz»)) s now) unopened refused
 
+-- the last accepted reading is the opening one
+pub opened-at : (s : Settings) (now : ℕ) → T (accepts s) → (opened s now) .common .«last_reading» ≡ now
+unfolding newSession newCommon
+opened-at s now ok = ap (λ (x : Session). x .common .«last_reading») (opened-new s now ok)
+
 -- ---- the session beside a refusal: every call but a drain is refused by 10, and none changes it
 
 module _ (samples : List Float) where

@@ -20,10 +20,10 @@ use Rattle.model.specs.Rules.{isStale}
 use Rattle.model.specs.Routing.{Routed, iq, status, ignored, malformed}
 use Rattle.model.specs.Settings.{accepts}
 use Rattle.model.specs.Host.{Incoming, Call, Begin, Pass, Arrival, Take, Close, TakeMissing, TakeDiscontinuity, TakeStalled, Step, trace}
-use Rattle.model.specs.State.{State, left, waits, isOpen, orZero, quietSince, notReading, atReading, keeping}
+use Rattle.model.specs.State.{State, left, waits, isOpen, orZero, quietSince, atReading, replied, keeping}
 use Rattle.model.specs.Table.{rowsOf}
 use Rattle.tuning.specs.Rate.{khzOf}
-use Rattle.model.specs.Sending.{send, stopPackets}
+use Rattle.model.specs.Sending.{send, stopPackets, duePackets, wrote}
 use Rattle.model.specs.Open.{newCommon, newReceiver, newSession}
 use Rattle.model.specs.Begin.{orAt, begunBy}
 use Rattle.model.specs.Pass.{stallSoft, stallHard, passed}
@@ -168,36 +168,46 @@ module _ (st : State) (a : ℕ) (h : Anchored a st) where
     abbrev Passes : Step Session → Type 0
     Passes x = Fine set w (Pass now d) (keeping (st .samples) x)
 
-    pass-fine : Passes (passed at now d)
-    unfolding passed stallSoft stallHard left pick
-    pass-fine =
-        pick-either _ _ _ Passes
-        (λ e.
+    -- each of the four, where it is the one
+    abbrev softTest : Bool
+    softTest = isDue (at .receiver .stall) (quietSince (at .receiver)) now (set .«soft_after») (set .«stall_after»)
+
+    abbrev hardTest : Bool
+    hardTest = leb (set .«stall_after») (now - quietSince (at .receiver))
+
+    waits-fine : waits (at .receiver) ≡ true → Passes (replied (done ready) [] d [] at)
+    unfolding left pick
+    waits-fine e =
         record {
           anchor = a;
           next = is-waits _ _ _ _ e;
           anchored = h;
           ontime = record { lists = sym (is-waits _ _ _ _ e); right = λ _. ap done (sym (is-waits _ _ _ _ e)) };
-        })
-        λ e.
-        pick-either _ _ _ Passes
-        (λ f.
+        }
+
+    soft-fine : waits (at .receiver) ≡ false → softTest ≡ true → Passes (stallSoft at d)
+    unfolding stallSoft left pick
+    soft-fine e f =
         record {
           anchor = a;
           next = is-soft _ _ _ _ e f;
           anchored = λ o. let z : _≡_ {A = ℕ} 0 1 = cc in absurd (omega arith);
           ontime = record { lists = sym (is-soft _ _ _ _ e f); right = λ _. ap done (sym (is-soft _ _ _ _ e f)) };
-        })
-        λ f.
-        pick-either _ _ _ Passes
-        (λ g.
+        }
+
+    hard-fine : waits (at .receiver) ≡ false → softTest ≡ false → hardTest ≡ true → Passes (stallHard at d)
+    unfolding stallHard left pick
+    hard-fine e f g =
         record {
           anchor = a;
           next = is-hard _ _ _ _ e f g;
           anchored = λ o. let z : _≡_ {A = ℕ} 0 1 = cc in absurd (omega arith);
           ontime = record { lists = sym (is-hard _ _ _ _ e f g); right = λ _. ap done (sym (is-hard _ _ _ _ e f g)) };
-        })
-        λ g.
+        }
+
+    sent-fine : waits (at .receiver) ≡ false → softTest ≡ false → hardTest ≡ false → Passes (wrote (done sent) at d (duePackets now (at .common)))
+    unfolding left pick
+    sent-fine e f g =
         let due = due-is now (at .common) in
         record {
           anchor = a;
@@ -205,6 +215,14 @@ module _ (st : State) (a : ℕ) (h : Anchored a st) where
           anchored = h;
           ontime = record { lists = due .streams ∙ sym (is-sent _ _ _ _ e f g); right = λ _. ap done (sym (is-sent _ _ _ _ e f g)) };
         }
+
+    pass-fine : Passes (passed at now d)
+    unfolding passed
+    pass-fine =
+        pick-either (waits (at .receiver)) (replied (done ready) [] d [] at) _ Passes waits-fine λ e.
+        pick-either softTest (stallSoft at d) _ Passes (soft-fine e) λ f.
+        pick-either hardTest (stallHard at d) _ Passes (hard-fine e f) λ g.
+        sent-fine e f g
 
   -- ---- Arrival, by what the datagram is
 
