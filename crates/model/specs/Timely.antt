@@ -35,8 +35,8 @@ use Rattle.model.specs.declared.settings.Settings.{Settings}
 
 -- ---- what is watched
 
--- when packets of each stream were last due, or a step's was written; the attenuator; when the last valid I/Q datagram came; since when datagrams are waited for, and this read's anchor;
--- delivering; how many samples wait
+-- when packets of each stream were last due, or a step's was written; the attenuator; when the last valid I/Q datagram came; since
+-- when datagrams are waited for, and this read's anchor; delivering; how many samples wait
 pub record Watch : Type 0 where
   pub clocks : Clocks
   pub attenuation : Attenuation
