@@ -30,11 +30,11 @@ cond-append : (t : Bool) (x : Entry) (l m k : List Entry) → l ≡ m ++ k → c
 cond-append true x l m k e = e
 cond-append false x l m k e = ap (λ (z : List Entry). x ∷ z) e
 
-accepted-append : (xs ys : List Entry) → acceptedIn (xs ++ ys) ≡ acceptedIn xs ++ acceptedIn ys
+pub accepted-append : (xs ys : List Entry) → acceptedIn (xs ++ ys) ≡ acceptedIn xs ++ acceptedIn ys
 accepted-append [] ys = refl
 accepted-append (x ∷ xs) ys = cond-append (lateEntry x) x (acceptedIn (xs ++ ys)) (acceptedIn xs) (acceptedIn ys) (accepted-append xs ys)
 
-samples-append : (xs ys : List Entry) → samplesOf (xs ++ ys) ≡ samplesOf xs ++ samplesOf ys
+pub samples-append : (xs ys : List Entry) → samplesOf (xs ++ ys) ≡ samplesOf xs ++ samplesOf ys
 samples-append [] ys = refl
 samples-append (x ∷ xs) ys = rw (samples-append xs ys) (sym (append-assoc (samplesIn x) (samplesOf xs) (samplesOf ys)))
 

@@ -37,14 +37,14 @@ cond-expected false p q = refl
 -- ---- the next accepted number, k + 1 past h
 
 -- e is h + 1, and n is k past e
-past-e : (h n : ℤ) (k : ℕ) → n -ℤ (h +ℤ pos 1) ≡ pos k → n ≡ h +ℤ pos (k + 1)
+pub past-e : (h n : ℤ) (k : ℕ) → n -ℤ (h +ℤ pos 1) ≡ pos k → n ≡ h +ℤ pos (k + 1)
 past-e h n k d =
     from-distance (h +ℤ pos 1) n (pos k) d ∙ +ℤ-assoc h (pos 1) (pos k) ∙ ap (λ (j : ℕ). h +ℤ pos j) (omega arith)
 
-distance-of : (h n : ℤ) (k : ℕ) → n ≡ h +ℤ pos k → n -ℤ h ≡ pos k
+pub distance-of : (h n : ℤ) (k : ℕ) → n ≡ h +ℤ pos k → n -ℤ h ≡ pos k
 distance-of h n k e = ap (λ (z : ℤ). z -ℤ h) (e ∙ +ℤ-comm h (pos k)) ∙ +ℤ-negℤ-cancel (pos k) h
 
-is-higher : (h n : ℤ) (k : ℕ) → n ≡ h +ℤ pos (k + 1) → higher h n ≡ n
+pub is-higher : (h n : ℤ) (k : ℕ) → n ≡ h +ℤ pos (k + 1) → higher h n ≡ n
 unfolding pick
 is-higher h n k e = rw (distance-of h n (k + 1) e, lt-ltb 0 (k + 1) (omega arith)) refl
 
@@ -83,7 +83,7 @@ not-late Stale false b h e = cc
 not-late Restart f b h e = h .1
 
 -- and so is the first
-first-in : (x : Entry) → x .book .expected ≡ none → lateEntry x ≡ false
+pub first-in : (x : Entry) → x .book .expected ≡ none → lateEntry x ≡ false
 first-in x e = rw e refl
 
 module _ (s : Settings) where
@@ -135,7 +135,7 @@ module _ (s : Settings) where
     one-step Stale m s a b = skipped h x ys (s .2) m (b (s .2))
     one-step Restart m s a b = absurd (going (r .told .restart .1 (rw (s .1) (λ t. t))))
 
-  says-at : (h : ℤ) (x : Entry) → x .book .expected ≡ some (h +ℤ pos 1) → Says (x .number -ℤ (h +ℤ pos 1)) (verdictOf x) (fitting s x) (lateEntry x)
+  pub says-at : (h : ℤ) (x : Entry) → x .book .expected ≡ some (h +ℤ pos 1) → Says (x .number -ℤ (h +ℤ pos 1)) (verdictOf x) (fitting s x) (lateEntry x)
   says-at h x e = rw e (says (limitIn s (x .book) (x .incoming .now)) (x .book .run) (h +ℤ pos 1) (x .number))
 
   adds : (h : ℤ) (xs : List Entry) → Chained (some (h +ℤ pos 1)) xs → Each Going xs → Adds h xs

@@ -1,16 +1,8 @@
 // The program's arguments: `[--gaps] [--numbered] [--status] [FILE]`. The script `waluntig` is what people run; it takes the
 // status from descriptor 3, since a program of this language has none of its own.
+use desk::desk::Flags;
 use libc::PATH_MAX;
 use libc::STDERR_FILENO;
-
-pub(crate) struct Flags {
-    // a line for each gap
-    pub(crate) gaps: bool,
-    // the number of its line before each answer
-    pub(crate) numbered: bool,
-    // the status to descriptor 3
-    pub(crate) status: bool,
-}
 
 pub(crate) struct Arguments {
     pub(crate) flags: Flags,

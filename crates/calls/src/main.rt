@@ -1,14 +1,11 @@
 // Reads lists of calls as text (docs/CALLS.md) from standard input, or from the file that its argument names, and writes an answer a
 // line and each session's account.
 mod arguments;
-mod desk;
-mod line;
-mod reply;
 mod run;
 mod sessions;
 
 use arguments::Arguments;
-use arguments::Flags;
+use desk::desk::Flags;
 use libc::PATH_MAX;
 
 // `-` is standard input.

@@ -1,17 +1,8 @@
 // The lines of a list, each read, run and answered in turn.
 ghost use Rattle.console.specs.Input.{Within};
-use super::arguments::Flags;
-use super::desk::CALL;
-use super::desk::Desk;
-use super::desk::OPEN;
-use super::desk::empty;
-use super::desk::flushed;
-use super::line::read;
-use super::reply;
-use super::sessions::called;
-use super::sessions::opened;
+use super::sessions::after;
+use super::sessions::became_of;
 use super::sessions::told;
-use super::sessions::unused;
 use console::input::Input;
 use console::input::ROOM as INPUT;
 use console::input::fill;
@@ -20,9 +11,16 @@ use console::input::next;
 use console::input::nothing;
 use console::output::ROOM;
 use console::output::finish;
-use marking::account::TABLE;
+use desk::desk::Desk;
+use desk::desk::Flags;
+use desk::desk::empty;
+use desk::desk::flushed;
+use desk::line::read;
+use desk::reply;
+use holding::unused;
 use std::num::wrapping_add_u64;
 use stream::F32_PER_DATAGRAM;
+use tally::account::TABLE;
 use telling::error;
 
 // Whether the list goes on.
@@ -76,7 +74,7 @@ fn run_lines(
     table: &mut [u64; TABLE],
     out: &mut [u8; ROOM],
 ) -> u8 {
-    let mut s = unused();
+    let mut h = unused(samples, table);
     let mut d = empty(flags);
     let mut at = nothing();
     let mut turns = u64::MAX;
@@ -89,14 +87,24 @@ fn run_lines(
             continue;
         }
         d = read(d, at, text, call, octets, numbers, out);
-        d = told(s, d, table, out);
-        if d.asks == CALL {
-            s = called(s, samples, call, octets, numbers, packets, places, answers);
-        }
-        if d.asks == OPEN {
-            s = opened(text, at);
-        }
-        d = reply::tell(d, call, octets, packets, places, answers, table, out);
+        let asks = d.asks;
+        d = told(h, d, table, out);
+        let before = h.sitting.account;
+        h = after(
+            h,
+            asks,
+            text,
+            at,
+            samples,
+            call,
+            octets,
+            numbers,
+            packets,
+            places,
+            answers,
+            table,
+        );
+        d = reply::tell(d, became_of(h, before, call), packets, places, answers, out);
     }
     end(d, at.failed, name, out)
 }

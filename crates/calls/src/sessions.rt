@@ -1,53 +1,53 @@
-// The session: opened, called, and told of. What a session is needed for stands here, and nothing else: each statement of a function
-// that holds one costs the proof as much as a small function.
+// The session in hand: after a line, and what is told of it. What a session is needed for stands here, and nothing else: each
+// statement of a function that holds one costs the proof as much as a small function.
 ghost use Rattle.console.specs.Input.{Within};
-use super::desk::Desk;
-use super::desk::END;
-use super::desk::OPEN;
-use super::desk::STATE;
-use super::desk::numbered;
-use super::desk::written;
+ghost use Rattle.examining.specs.Stands.{Standing};
+ghost use Rattle.holding.specs.Held.{Holds, Kept};
+ghost use Rattle.desk.specs.Asked.{Asks};
 use console::input::Input;
 use console::input::ROOM as INPUT;
 use console::output::ROOM;
-use lines::read_open;
-use marking::account::TABLE;
-use marking::stretches;
+use desk::desk::CALL;
+use desk::desk::Desk;
+use desk::desk::END;
+use desk::desk::OPEN;
+use desk::desk::STATE;
+use desk::desk::numbered;
+use desk::desk::written;
+use desk::key;
+use desk::reply::Became;
+use encoding::words::KIND;
+use examining::sitting::end_of;
+use holding::Held;
+use holding::called;
 use model::session::Session;
-use opening::open::open;
-use replay::run::carry_on;
-use session::readers::gap_stats;
-use session::readers::loss_total;
-use session::readers::waiting_samples;
 use stream::F32_PER_DATAGRAM;
+use tally::account::Account;
+use tally::account::TABLE;
 use telling::state;
 
-// By the settings of this line, whose first word is `open`.
-fn of_line(line: &[u8]) -> Session {
-    let asked = read_open(line);
-    let settings = asked.settings;
-    let r = open(settings, asked.at);
-    r.session
-}
-
 // By the line in hand.
-pub(crate) fn opened(text: &[u8; INPUT], at: Input) -> Session
+fn opened(
+    text: &[u8; INPUT],
+    at: Input,
+    samples: &[f32; F32_PER_DATAGRAM],
+    table: &[u64; TABLE],
+) -> Held
     requires { ⌜ Within at ⌝ }
+    ensures { λ r. ⌜ Holds r (now (samples .entry)) (now (table .entry)) ⌝ }
 {
     let all = &text[..];
     let start = at.start;
     let end = at.end;
-    of_line(&all[start..end])
+    holding::opened(&all[start..end], samples, table)
 }
 
-// Before the first `open`: one that nothing is asked of.
-pub(crate) fn unused() -> Session {
-    of_line(b"open")
-}
-
-// After a call.
-pub(crate) fn called(
-    s: Session,
+// After the line in hand, which asks for this.
+pub(crate) fn after(
+    h: Held,
+    asks: u8,
+    text: &[u8; INPUT],
+    at: Input,
     samples: &mut [f32; F32_PER_DATAGRAM],
     call: &[u64; 8],
     octets: &[u8; 2048],
@@ -55,25 +55,55 @@ pub(crate) fn called(
     packets: &mut [u8; 8192],
     places: &mut [f32; 1024],
     answers: &mut [u64; 8],
-) -> Session {
-    let r = carry_on(s, samples, call, octets, numbers, packets, places, answers);
-    r.session
+    table: &mut [u64; TABLE],
+) -> Held
+    requires { ⌜ Within at ⌝ }
+    requires { ⌜ Asks asks (now call) ⌝ }
+    requires { ⌜ Holds h (now samples) (now table) ⌝ }
+    ensures { λ r. ⌜ Holds r (now (samples .exit)) (now (table .exit)) ⌝ }
+{
+    if asks == CALL {
+        return called(
+            h,
+            samples,
+            call,
+            octets,
+            numbers,
+            packets,
+            places,
+            answers,
+            table,
+        );
+    }
+    if asks == OPEN {
+        return opened(text, at, samples, table);
+    }
+    h
 }
 
 // The account of a session that ends.
-fn put_account(s: Session, d: Desk, table: &mut [u64; TABLE], out: &mut [u8; ROOM]) -> usize {
-    let waiting = waiting_samples(s) as u64;
-    let loss = loss_total(s);
-    let health = gap_stats(s);
-    let account = d.account;
-    stretches::tell(out, d.out, table, account, waiting, health, loss)
+fn put_account(
+    s: Session,
+    a: Account,
+    at: usize,
+    table: &[u64; TABLE],
+    out: &mut [u8; ROOM],
+) -> usize
+    requires { ⌜ Standing s (now table) a ⌝ }
+{
+    let end = end_of(s);
+    key::put_rows(out, at, table, a, end)
 }
 
-fn ended(s: Session, d: Desk, table: &mut [u64; TABLE], out: &mut [u8; ROOM]) -> Desk {
-    if !d.is_open {
+fn ended(h: Held, d: Desk, table: &[u64; TABLE], out: &mut [u8; ROOM]) -> Desk
+    requires { ⌜ Kept h (now table) ⌝ }
+{
+    if !h.stands {
         return d;
     }
-    written(d, put_account(s, d, table, out))
+    let s = h.sitting.session;
+    let a = h.sitting.account;
+    written(d, put_account(s, a, d.out, table, out))
 }
 
 fn shown(s: Session, d: Desk, out: &mut [u8; ROOM]) -> Desk {
@@ -82,11 +112,25 @@ fn shown(s: Session, d: Desk, out: &mut [u8; ROOM]) -> Desk {
 }
 
 // Of the session as it is before the line in hand: its state, or its account where it ends.
-pub(crate) fn told(s: Session, d: Desk, table: &mut [u64; TABLE], out: &mut [u8; ROOM]) -> Desk {
+pub(crate) fn told(h: Held, d: Desk, table: &[u64; TABLE], out: &mut [u8; ROOM]) -> Desk
+    requires { ⌜ Kept h (now table) ⌝ }
+{
     let asks = d.asks;
+    let s = h.sitting.session;
     match asks {
         STATE => shown(s, d, out),
-        OPEN | END => ended(s, d, table, out),
+        OPEN | END => ended(h, d, table, out),
         _ => d,
+    }
+}
+
+// What became of a line, of the session after it and the account before it.
+pub(crate) fn became_of(h: Held, before: Account, call: &[u64; 8]) -> Became {
+    let fits = h.sitting.fits;
+    Became {
+        refused: h.refused,
+        kind: call[KIND],
+        fits,
+        before,
     }
 }

@@ -1,13 +1,15 @@
 -- The values that a line's words leave are within their limits. Assumes nothing.
-use mathlib.Core.Path.{_≡_, refl, ap, _∙_}
+use mathlib.Core.Path.{_≡_, refl, sym, ap, _∙_}
+use mathlib.Core.Logic.{_≢_}
 use mathlib.Core.Bool.{Bool, true, false}
-use mathlib.Core.List.{List, [], _∷_}
+use mathlib.Core.List.{List, [], _∷_, _++_}
 use Prim.Native.Nat.{ℕ, zero, suc, _+_, _≤_, _<_}
 use native.Mathlib.Omega.{arith}
-use borrow.Author.Tests.{leb-true, leb-false, eqb-true}
+use borrow.Author.Tests.{leb-true, leb-false, eqb-true, eqb-false}
 use lib.Dec.{leb, ltb}
 use lib.ListN.{length, getD, set, getD-replicate}
 use Rattle.base.specs.Pick.{pick}
+use Rattle.base.specs.Each.{Each}
 use Rattle.base.proofs.Picks.{pick-either}
 use Rattle.text.specs.declared.Spelt.{Spelt}
 use Rattle.text.specs.declared.Spelt.the-variants.{Number, Nothing}
@@ -122,6 +124,27 @@ pub or-else-most : (l : List ℕ) (key other b : ℕ) → getD l (keysAt + key) 
 unfolding orElse
 or-else-most l key other b h o = pick-either _ _ _ (λ x. x ≤ b) (λ t. h) (λ f. o)
 
+-- a number that stands in neither part of a list
+apart : (v : ℕ) (l : List ℕ) (n : ℕ) → v ≢ 0 → Each (λ x. x ≢ v) l → getD l n 0 ≢ v
+apart v [] n z h e = z (sym e)
+apart v (x ∷ l) zero z h e = h .0 e
+apart v (x ∷ l) (suc n) z h e = apart v l n z (h .1) e
+
+-- stands at their seam alone
+at-seam : (v : ℕ) (a b : List ℕ) (n : ℕ) → v ≢ 0 → Each (λ x. x ≢ v) a → Each (λ x. x ≢ v) b → getD (a ++ (v ∷ b)) n 0 ≡ v → n ≡ length a
+at-seam v [] b zero z h k e = refl
+at-seam v [] b (suc n) z h k e = absurd (apart v b n z k e)
+at-seam v (x ∷ a) b zero z h k e = absurd (h .0 e)
+at-seam v (x ∷ a) b (suc n) z h k e = ap suc (at-seam v a b n z (h .1) k e)
+
+-- a Take has one name
+is-take : (name : ℕ) → getD kinds name 0 ≡ 3 → name ≡ takeName
+is-take name e =
+    at-seam 3 (0 ∷ 1 ∷ 2 ∷ 2 ∷ 2 ∷ []) (4 ∷ 5 ∷ 6 ∷ 7 ∷ 0 ∷ 0 ∷ []) name (λ z. omega arith)
+    (λ z. omega arith, (λ z. omega arith, (λ z. omega arith, (λ z. omega arith, (λ z. omega arith, tt)))))
+    (λ z. omega arith, (λ z. omega arith, (λ z. omega arith, (λ z. omega arith, (λ z. omega arith, (λ z. omega arith, tt))))))
+    e
+
 module _ (name : ℕ) (l : List ℕ) (h : Held name l) where
   pub small : Small name l
   small = (
@@ -148,6 +171,13 @@ module _ (name : ℕ) (l : List ℕ) (h : Held name l) where
       (λ t. let z = h .words 1 (omega arith) in omega (arith, rw (eqb-true name takeName t) at z))
       (λ f. or-else-most l bufferKey (getD buffers name 0) 8192 (h .options bufferKey (omega arith)) (omega (arith, getD-under 8193 buffers (omega arith) tt name)))
 
+  taken-most : getD kinds name 0 ≡ 3 → placesOf name l ≤ 1024
+  unfolding placesOf
+  taken-most e =
+      let t = is-take name e in
+      let z = h .words 1 (omega arith) in
+      pick-either _ _ _ (λ x. x ≤ 1024) (λ _. omega (arith, rw t at z)) (λ f. absurd (eqb-false name takeName f t))
+
   address-most : (ip : ℕ) → ip < 4294967296 → addressOf name ip l ≤ 4294967296
   unfolding addressOf
   address-most ip b =
@@ -172,4 +202,5 @@ module _ (name : ℕ) (l : List ℕ) (h : Held name l) where
         octets = count-most;
         waiting = h .options waitingKey (omega arith);
         places = places-most;
+        taken = taken-most;
       }

@@ -142,6 +142,8 @@ pub record Fit (c : List ℕ) : Type 0 where
   pub octets : getD c 5 0 ≤ mostOctets
   pub waiting : getD c 6 0 ≤ mostNumbers
   pub places : getD c 7 0 ≤ 8192
+  -- a Take's
+  pub taken : getD c 0 0 ≡ 3 → getD c 7 0 ≤ 1024
 
 -- what a buffer holds after an answer: a call's, or the other
 abbrev pub onCall : {A : Type 0} → Read → A → A → A

@@ -1,3 +1,2 @@
-// The key that is marked by: the account of a session, noted answer by answer, and written as lines of text.
-pub mod account;
-pub mod stretches;
+// The key that is marked by, answer by answer: what a call's answer adds to the account of its session.
+pub mod note;

@@ -1,3 +1,4 @@
 -- The laws behind Open: a file imports only what stands above it here.
 pub mod Settled
 pub mod Openings
+pub mod Refusals

@@ -36,15 +36,15 @@ runs-append st mid end a b ra rb x y =
     }
 
 -- what is lent beside a session at first makes no difference to its calls
-trace-any : (samples : List Float) (st : State) (cs : List Call) → trace (session samples) st cs ≡ trace host st cs
+pub trace-any : (samples : List Float) (st : State) (cs : List Call) → trace (session samples) st cs ≡ trace host st cs
 trace-any samples st [] = refl
 trace-any samples st (c ∷ cs) = ap (λ (l : List Reply). (step st c) .reply ∷ l) (trace-any samples ((step st c) .state) cs)
 
-final-any : (samples : List Float) (st : State) (cs : List Call) → final (session samples) st cs ≡ final host st cs
+pub final-any : (samples : List Float) (st : State) (cs : List Call) → final (session samples) st cs ≡ final host st cs
 final-any samples st [] = refl
 final-any samples st (c ∷ cs) = final-any samples ((step st c) .state) cs
 
-calls-of : (cs : List Call) (ns : List ℤ) → callsOf (numbered cs ns) ≡ cs
+pub calls-of : (cs : List Call) (ns : List ℤ) → callsOf (numbered cs ns) ≡ cs
 calls-of [] ns = refl
 calls-of (c ∷ cs) ns = ap (λ (l : List Call). c ∷ l) (calls-of cs (drop 1 ns))
 

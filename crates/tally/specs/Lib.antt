@@ -1,2 +1,5 @@
--- The definitions that the contracts of `tally` cite, and what is claimed of a stretch.
+-- The definitions that the contracts of `tally` cite, in the order of reading.
 pub mod Stretch
+pub mod Stretches
+pub mod Table
+pub mod Rows

@@ -1,33 +1,43 @@
--- The account of a stretch, arrival by arrival. Definitions only.
-use Prim.Native.Nat.{ℕ, _+_, _-_, _*_, _%_, _≤_}
+-- A stretch as it is told, arrival by arrival. Definitions only.
+use Prim.Native.Nat.{ℕ, _+_, _-_, _*_, _%_, _≤_, _^_}
 use mathlib.Core.Path.{_≡_}
 use Rattle.stream.specs.Size.{perDatagram}
-use Rattle.tally.specs.declared.Stretch.{Stretch}
-use Rattle.tally.specs.declared.Sums.{Sums}
+use Rattle.tally.specs.declared.record.Record.{Record}
+use Rattle.tally.specs.declared.stretch.Stretch.{Stretch}
+use Rattle.tally.specs.declared.stretch.Sums.{Sums}
 
 -- a sum of the code's
 abbrev pub sum : ℕ → ℕ → ℕ
-sum a b = (a + b) % 0x1_0000_0000_0000_0000
+sum a b = (a + b) % 2 ^ 64
 
 -- how far a number lies above another, modulo 2^32
 abbrev pub above : ℕ → ℕ → ℕ
-above number highest = (number + 0x1_0000_0000 - highest % 0x1_0000_0000) % 0x1_0000_0000
+above number highest = (number + 2 ^ 32 - highest % 2 ^ 32) % 2 ^ 32
 
 -- the first arrival: its missing is the restart's
-unfoldable pub firstOf : ℕ → ℕ → ℕ → Stretch
-firstOf at number restart = record { at = at; last = at; first = number; restart = restart; highest = number; samples = perDatagram; missing = 0 }
+unfoldable pub firstOf : Record → Stretch
+firstOf x =
+    record {
+      at = x .reading;
+      last = x .reading;
+      first = x .number;
+      restart = x .missing;
+      highest = x .number;
+      samples = perDatagram;
+      missing = 0;
+    }
 
--- an accepted arrival more, by its reading, its number and the missing told with it
-unfoldable pub moreOf : Stretch → ℕ → ℕ → ℕ → Stretch
-moreOf s reading number missing =
+-- an accepted arrival more
+unfoldable pub moreOf : Stretch → Record → Stretch
+moreOf s x =
     record {
       at = s .at;
-      last = reading;
+      last = x .reading;
       first = s .first;
       restart = s .restart;
-      highest = sum (s .highest) (above number (s .highest));
+      highest = sum (s .highest) (above (x .number) (s .highest));
       samples = sum (s .samples) perDatagram;
-      missing = sum (s .missing) missing;
+      missing = sum (s .missing) (x .missing);
     }
 
 unfoldable pub plusOf : Sums → Stretch → Sums

@@ -2,4 +2,5 @@
 pub mod answer;
 mod digest;
 pub mod error;
+pub mod key;
 pub mod state;

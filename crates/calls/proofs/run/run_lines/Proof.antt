@@ -1,15 +1,18 @@
--- `calls::run::run_lines` is safe and ends: the measure is the number of turns that are left. Assumes nothing.
+-- `calls::run::run_lines` is safe and ends: the measure is the number of turns that are left. Through every turn the account stands,
+-- where it is said to, so that what is told is the account of the calls that were run. Assumes nothing.
 use borrow.Author.Needs.{needs}
 use native.Mathlib.Omega.{arith}
 use Rattle.console.specs.Input.{Within}
+use Rattle.holding.specs.Held.{Holds}
+use Rattle.holding.proofs.Keeps.{kept}
 use Rattle.calls.proofs.run.run_lines.Statement.{statement}
 use Rattle.calls.proofs.run.run_lines.Tie as tie
 
 abbrev Inv-loop : tie.InvT-loop
-Inv-loop fd name text₀ samples₀ call₀ octets₀ numbers₀ packets₀ places₀ answers₀ table₀ out₀ s₀ d₀ at₀ turns₀ text samples call octets numbers packets places answers table out s d at turns = Within at
+Inv-loop fd name text₀ samples₀ call₀ octets₀ numbers₀ packets₀ places₀ answers₀ table₀ out₀ h₀ d₀ at₀ turns₀ text samples call octets numbers packets places answers table out h d at turns = Within at × Holds h samples table
 
 abbrev μ-loop : tie.MeasureT-loop
-μ-loop fd name text₀ samples₀ call₀ octets₀ numbers₀ packets₀ places₀ answers₀ table₀ out₀ s₀ d₀ at₀ turns₀ text samples call octets numbers packets places answers table out s d at turns = turns
+μ-loop fd name text₀ samples₀ call₀ octets₀ numbers₀ packets₀ places₀ answers₀ table₀ out₀ h₀ d₀ at₀ turns₀ text samples call octets numbers packets places answers table out h d at turns = turns
 
 unused-requires : tie.Need-unused-requires Inv-loop μ-loop
 unused-requires c κs = search needs
@@ -21,7 +24,7 @@ nothing-requires : tie.Need-nothing-requires Inv-loop μ-loop
 nothing-requires c κs = search needs
 
 loop-holds : tie.Need-loop-holds Inv-loop μ-loop
-loop-holds c = search needs
+loop-holds c = (c .nothing .ensures, c .before .before .unused .ensures)
 
 goes-on-requires : tie.Need-goes-on-requires Inv-loop μ-loop
 goes-on-requires c κs = search needs
@@ -45,28 +48,28 @@ loop-less : tie.Need-loop-less Inv-loop μ-loop
 loop-less c = omega (arith, c .before .before .before .before .before .before .before .before .before .before .loop-test .taken)
 
 loop-again : tie.Need-loop-again Inv-loop μ-loop
-loop-again c = search needs
+loop-again c = (c .read-on .ensures, c .before .before .before .before .before .before .before .before .before .before .before .loop .inv .1)
 
 read-requires : tie.Need-read-requires Inv-loop μ-loop
 read-requires c κs = search needs
 
 told-requires : tie.Need-told-requires Inv-loop μ-loop
-told-requires c κs = search needs
+told-requires c κs = kept _ _ _ (c .before .before .before .before .before .before .before .before .before .before .before .before .before .before .before .loop .inv .1)
 
-called-requires : tie.Need-called-requires Inv-loop μ-loop
-called-requires c κs = search needs
+after-requires : tie.Need-after-requires Inv-loop μ-loop
+after-requires c κs = (c .before .before .before .before .before .before .before .before .before .before .before .before .before .before .before .before .before .before .before .before .before .next .ensures, (c .before .before .before .before .before .before .before .before .before .before .before .before .before .read .ensures, c .before .before .before .before .before .before .before .before .before .before .before .before .before .before .before .before .before .before .before .before .before .before .before .before .before .before .loop .inv .1))
 
-opened-requires : tie.Need-opened-requires Inv-loop μ-loop
-opened-requires c κs = c .before .before .before .before .before .before .before .before .before .before .before .before .before .before .before .before .next .ensures
+became-of-requires : tie.Need-became-of-requires Inv-loop μ-loop
+became-of-requires c κs = search needs
 
 tell-requires : tie.Need-tell-requires Inv-loop μ-loop
 tell-requires c κs = search needs
 
 loop-less-2 : tie.Need-loop-less-2 Inv-loop μ-loop
-loop-less-2 c = omega (arith, c .before .before .before .before .before .before .before .before .before .before .before .before .before .before .before .before .before .before .before .before .before .before .before .before .before .before .before .loop-test .taken)
+loop-less-2 c = omega (arith, c .before .before .before .before .before .before .before .before .before .before .before .before .before .before .before .before .before .before .before .before .before .before .before .before .before .before .before .before .before .before .before .before .before .loop-test .taken)
 
 loop-again-2 : tie.Need-loop-again-2 Inv-loop μ-loop
-loop-again-2 c = c .before .before .before .before .before .before .before .before .before .before .before .before .before .before .before .before .before .before .before .before .before .before .before .next .ensures
+loop-again-2 c = (c .before .before .before .before .before .before .before .before .before .before .before .before .before .before .before .before .before .before .before .before .before .before .before .before .before .before .before .before .before .next .ensures, c .before .before .before .before .before .before .before .after .ensures)
 
 end-requires : tie.Need-end-requires Inv-loop μ-loop
 end-requires c κs = search needs
@@ -94,8 +97,8 @@ run-lines-spec =
     loop-again
     read-requires
     told-requires
-    called-requires
-    opened-requires
+    after-requires
+    became-of-requires
     tell-requires
     loop-less-2
     loop-again-2

@@ -1,0 +1,2 @@
+-- The definitions that the contracts of `desk` cite.
+pub mod Asked

@@ -1,0 +1,2 @@
+-- What holds of the session that a program holds.
+pub mod Keeps

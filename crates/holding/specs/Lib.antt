@@ -1,0 +1,2 @@
+-- The definitions that the contracts of `holding` cite.
+pub mod Held
