@@ -1,0 +1,2 @@
+-- The laws of `console`.
+pub mod Decimal
