@@ -1,6 +1,6 @@
 -- A number's decimal text: the reader of lists reads the number back from it, and there is one text alone. Assumes nothing.
 use Prim.Native.Nat.{ℕ, zero, suc, _+_, _-_, _*_, _/_, _%_, _^_, _≤_, _<_}
-use mathlib.Core.Path.{_≡_, refl, sym, ap, _∙_}
+use mathlib.Core.Path.{_≡_, refl, _∙_}
 use mathlib.Core.Bool.{Bool, true, false, and-false}
 use mathlib.Core.List.{List, [], _∷_, _++_, append-assoc, append-nil}
 use native.Mathlib.Nat.{pow-suc, pow-le-pow-right}
@@ -60,18 +60,21 @@ unfolding numberOf digitsAfter
 read-back n zero f h = absurd (omega arith)
 read-back n (suc k) f h =
     let u : n ≤ most = omega arith in
-    rw (digits-not-hex (suc k) n) (one-or-more (digits 10 k (n / 10)) (glyph (n % 10)) ∙ rw (← append-nil (digits 10 (suc k) n)) (digits-read (suc k) n [] (f .1) u))
+    rw (digits-not-hex (suc k) n)
+    (one-or-more (digits 10 k (n / 10)) (glyph (n % 10))
+    ∙ rw (← append-nil (digits 10 (suc k) n)) (digits-read (suc k) n [] (f .1) u))
 
--- a number has one count of digits
-at-most : (n j k : ℕ) → Fewest 10 1 n j → Fewest 10 1 n k → k ≤ j
-at-most n j k f g = go (leb k j) refl
+-- a number below 10^j has at most j digits
+pub at-most : (n j k : ℕ) → 1 ≤ j → n < 10 ^ j → Fewest 10 1 n k → k ≤ j
+at-most n j k o h f = go (leb k j) refl
   where
     go : (b : Bool) → leb k j ≡ b → k ≤ j
     go true e = leb-true k j e
     go false e =
         let l : j < k = leb-false k j e in
-        let p : 10 ^ j ≤ 10 ^ (k - 1) = pow-le-pow-right (omega arith) (omega arith) in
-        absurd (omega (arith, f .1, g .2 (omega arith)))
+        let p : 10 ^ j ≤ 10 ^ (k - 1) = pow-le-pow-right (omega arith) {i = j} {j = k - 1} (omega arith) in
+        absurd (omega (arith, f .2 (omega arith)))
 
+-- and one count of digits alone, so one text
 pub one-count : (n j k : ℕ) → Fewest 10 1 n j → Fewest 10 1 n k → j ≡ k
-one-count n j k f g = omega (arith, at-most n j k f g, at-most n k j g f)
+one-count n j k f g = omega (arith, at-most n j k (f .0) (f .1) g, at-most n k j (g .0) (g .1) f)

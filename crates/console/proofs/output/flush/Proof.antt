@@ -1,7 +1,7 @@
 -- `console::output::flush` meets its contract: all octets are written, or a write failed. Assumes nothing.
 use mathlib.Core.Path.{refl}
 use borrow.Author.Needs.{needs}
-use Rattle.console.specs.Output.{Flushed, all, stopped}
+use Rattle.console.specs.Output.{all, stopped}
 use Rattle.console.proofs.output.flush.Statement.{statement}
 use Rattle.console.proofs.output.flush.Tie as tie
 

@@ -3,7 +3,7 @@ use Prim.Native.Nat.{ℕ, _≤_}
 use mathlib.Core.Path.{refl}
 use native.Mathlib.Omega.{arith}
 use borrow.Author.Needs.{needs}
-use Rattle.console.specs.Output.{room, Flushed, all, stopped, Puts, behind, front, unwritten, tooLong}
+use Rattle.console.specs.Output.{room, Flushed, all, stopped, behind, front, unwritten, tooLong}
 use Rattle.console.proofs.output.put.Statement.{statement}
 use Rattle.console.proofs.output.put.Tie as tie
 
