@@ -1,0 +1,3 @@
+-- The laws of `console`: a file imports only what stands above it here.
+pub mod Decimal
+pub mod Printed
