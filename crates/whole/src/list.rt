@@ -1,0 +1,110 @@
+// The calls of a session, gathered one behind the other as replay takes them: eight numbers each, datagrams, waiting numbers.
+ghost use Prim.Native.Nat.{_<_};
+use super::copy;
+use encoding::words::taken_by;
+use encoding::words::words_at;
+use lines::MOST_NUMBERS;
+use lines::MOST_OCTETS;
+
+// The most calls of a session, and their numbers.
+pub(crate) const CALLS: usize = 1024;
+
+pub(crate) const WORDS: usize = 8192;
+
+// The most octets of all datagrams, and the most waiting numbers in all.
+pub(crate) const OCTETS: usize = 262144;
+
+pub(crate) const NUMBERS: usize = 16384;
+
+// How much is gathered of each. More than there is room for: the last call had none.
+pub(crate) struct List {
+    pub(crate) calls: usize,
+    pub(crate) octets: usize,
+    pub(crate) numbers: usize,
+}
+
+// That of a session just opened.
+pub(crate) fn none() -> List {
+    List {
+        calls: 0,
+        octets: 0,
+        numbers: 0,
+    }
+}
+
+pub(crate) fn fits(l: List) -> bool {
+    l.calls <= CALLS && l.octets <= OCTETS && l.numbers <= NUMBERS
+}
+
+fn store(calls: &mut [u64; WORDS], i: usize, call: &[u64; 8])
+    requires { ⌜ i < 1024 ⌝ }
+{
+    calls[8 * i] = call[0];
+    calls[8 * i + 1] = call[1];
+    calls[8 * i + 2] = call[2];
+    calls[8 * i + 3] = call[3];
+    calls[8 * i + 4] = call[4];
+    calls[8 * i + 5] = call[5];
+    calls[8 * i + 6] = call[6];
+    calls[8 * i + 7] = call[7];
+}
+
+fn add_call(calls: &mut [u64; WORDS], i: usize, call: &[u64; 8]) -> usize {
+    if i >= CALLS {
+        return CALLS + 1;
+    }
+    store(calls, i, call);
+    i + 1
+}
+
+fn add_octets(
+    octets: &mut [u8; OCTETS],
+    at: usize,
+    datagram: &[u8; MOST_OCTETS],
+    n: usize,
+) -> usize {
+    let all = &datagram[..];
+    if n > MOST_OCTETS {
+        return OCTETS + 1;
+    }
+    if at > OCTETS - n {
+        return OCTETS + 1;
+    }
+    copy::octets(octets, at, &all[0..n]);
+    at + n
+}
+
+fn add_numbers(
+    numbers: &mut [u32; NUMBERS],
+    at: usize,
+    waiting: &[u32; MOST_NUMBERS],
+    n: usize,
+) -> usize {
+    let all = &waiting[..];
+    if n > MOST_NUMBERS {
+        return NUMBERS + 1;
+    }
+    if at > NUMBERS - n {
+        return NUMBERS + 1;
+    }
+    copy::numbers(numbers, at, &all[0..n]);
+    at + n
+}
+
+// A call more, with what it takes of its datagram and its waiting numbers.
+pub(crate) fn add(
+    l: List,
+    call: &[u64; 8],
+    datagram: &[u8; MOST_OCTETS],
+    waiting: &[u32; MOST_NUMBERS],
+    calls: &mut [u64; WORDS],
+    octets: &mut [u8; OCTETS],
+    numbers: &mut [u32; NUMBERS],
+) -> List {
+    let need = taken_by(words_at(call, 0));
+    List {
+        calls: add_call(calls, l.calls, call),
+        octets: add_octets(octets, l.octets, datagram, need.octets),
+        numbers: add_numbers(numbers, l.numbers, waiting, need.numbers),
+    }
+}

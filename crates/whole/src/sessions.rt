@@ -1,0 +1,110 @@
+// A session, run at once, and what a user reads off it then. What a session is needed for stands here, and nothing else: each
+// statement of a function that holds one costs the proof as much as a small function.
+ghost use Prim.Native.Nat.{_*_, _≤_};
+ghost use lib.ListN.{length};
+use super::list::NUMBERS;
+use super::list::OCTETS;
+use double::whole::floor_u64;
+use encoding::check::is_ran;
+use health::InputHealthCounters;
+use lines::Opening;
+use model::session::Session;
+use opening::settings::refusal;
+use replay::run::Replayed;
+use replay::run::replay;
+use session::readers::attenuation_db;
+use session::readers::center_freq_hz;
+use session::readers::gap_stats;
+use session::readers::loss_total;
+use session::readers::sample_rate;
+use session::readers::waiting_samples;
+use stream::F32_PER_DATAGRAM;
+
+// The most octets of all packet buffers, and the most f32 of all Takes.
+pub(crate) const PACKETS: usize = 1048576;
+
+pub(crate) const PLACES: usize = 65536;
+
+// What the account tells of the session.
+pub(crate) struct Counts {
+    pub(crate) waiting: u64,
+    pub(crate) health: InputHealthCounters,
+    pub(crate) loss: u64,
+}
+
+// In Hz, Hz and dB. Rate and centre are whole where the settings are accepted.
+pub(crate) struct Tuning {
+    pub(crate) rate: u64,
+    pub(crate) centre: u64,
+    pub(crate) attenuation: u64,
+}
+
+// What a run left.
+pub(crate) struct Left {
+    // 01's number of the refusal of the settings, or 0
+    pub(crate) refused: u64,
+    // the list was run
+    pub(crate) is_run: bool,
+    pub(crate) counted: Counts,
+    pub(crate) tuned: Tuning,
+}
+
+fn counted(s: Session) -> Counts {
+    let waiting = waiting_samples(s) as u64;
+    let health = gap_stats(s);
+    let loss = loss_total(s);
+    Counts {
+        waiting,
+        health,
+        loss,
+    }
+}
+
+fn tuned(s: Session) -> Tuning {
+    Tuning {
+        rate: floor_u64(sample_rate(s)),
+        centre: floor_u64(center_freq_hz(s)),
+        attenuation: attenuation_db(s) as u64,
+    }
+}
+
+fn read_off(r: Replayed) -> Left {
+    let answer = r.answer;
+    let outcome = r.outcome;
+    let s = r.session;
+    Left {
+        refused: refusal(answer),
+        is_run: is_ran(outcome),
+        counted: counted(s),
+        tuned: tuned(s),
+    }
+}
+
+// Runs the first n calls that are gathered, from a session just opened so. Their answers, packets and samples go to the lent buffers.
+pub(crate) fn run(
+    o: Opening,
+    n: usize,
+    calls: &[u64],
+    octets: &[u8; OCTETS],
+    numbers: &[u32; NUMBERS],
+    packets: &mut [u8; PACKETS],
+    places: &mut [f32; PLACES],
+    answers: &mut [u64],
+) -> Left
+    requires { ⌜ (8 * n ≤ length (now calls)) × (8 * n ≤ length (now answers)) ⌝ }
+{
+    let mut samples = [0.0f32; F32_PER_DATAGRAM];
+    let settings = o.settings;
+    let r = replay(
+        settings,
+        o.at,
+        &mut samples,
+        &calls[0..8 * n],
+        octets,
+        numbers,
+        packets,
+        places,
+        &mut answers[0..8 * n],
+    );
+    read_off(r)
+}

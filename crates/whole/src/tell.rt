@@ -1,0 +1,73 @@
+// What a session gave, once it is run, as lines of text.
+ghost use Prim.Native.Nat.{_≤_};
+use super::accounts;
+use super::desk::Desk;
+use super::desk::too_long;
+use super::desk::written;
+use super::list::OCTETS;
+use super::list::WORDS;
+use super::replies;
+use super::sessions::Left;
+use super::sessions::PACKETS;
+use super::sessions::PLACES;
+use super::sessions::Tuning;
+use console::output::ROOM;
+use console::output::put;
+use console::pattern::filled;
+
+fn put_tuned(out: &mut [u8; ROOM], at: usize, t: Tuning) -> usize {
+    filled(
+        out,
+        at,
+        b"reads rate # centre # attenuation #\n",
+        &[t.rate, t.centre, t.attenuation],
+    )
+}
+
+// The answers of n calls, the account, and what is read off the session.
+fn put_run(
+    n: usize,
+    left: Left,
+    calls: &[u64; WORDS],
+    octets: &[u8; OCTETS],
+    packets: &[u8; PACKETS],
+    places: &[f32; PLACES],
+    answers: &[u64; WORDS],
+    out: &mut [u8; ROOM],
+    at: usize,
+) -> usize
+    requires { ⌜ n ≤ 1024 ⌝ }
+{
+    let counted = left.counted;
+    let tuned = left.tuned;
+    let one = put(out, at, b"opened\n");
+    let two = replies::tell(n, calls, packets, places, answers, out, one);
+    let three = accounts::tell(n, calls, octets, answers, counted, out, two);
+    put_tuned(out, three, tuned)
+}
+
+// Of a session with n calls: that its settings are refused, that there is no room, or all that it gave.
+pub(crate) fn tell(
+    d: Desk,
+    n: usize,
+    left: Left,
+    calls: &[u64; WORDS],
+    octets: &[u8; OCTETS],
+    packets: &[u8; PACKETS],
+    places: &[f32; PLACES],
+    answers: &[u64; WORDS],
+    out: &mut [u8; ROOM],
+) -> Desk
+    requires { ⌜ n ≤ 1024 ⌝ }
+{
+    if left.refused != 0 {
+        return written(d, filled(out, d.out, b"refused #\n", &[left.refused]));
+    }
+    if !left.is_run {
+        return too_long(d, out);
+    }
+    written(
+        d,
+        put_run(n, left, calls, octets, packets, places, answers, out, d.out),
+    )
+}
