@@ -22,3 +22,13 @@ pub(crate) fn numbers(to: &mut [u32], at: usize, from: &[u32])
         i += 1;
     }
 }
+
+pub(crate) fn words(to: &mut [u64], at: usize, from: &[u64])
+    requires { ⌜ at + length (now from) ≤ length (now to) ⌝ }
+{
+    let mut i = 0;
+    while i < from.len() {
+        to[at + i] = from[i];
+        i += 1;
+    }
+}

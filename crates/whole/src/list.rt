@@ -1,5 +1,4 @@
 // The calls of a session, gathered one behind the other as replay takes them: eight numbers each, datagrams, waiting numbers.
-ghost use Prim.Native.Nat.{_<_};
 use super::copy;
 use encoding::words::taken_by;
 use encoding::words::words_at;
@@ -36,24 +35,11 @@ pub(crate) fn fits(l: List) -> bool {
     l.calls <= CALLS && l.octets <= OCTETS && l.numbers <= NUMBERS
 }
 
-fn store(calls: &mut [u64; WORDS], i: usize, call: &[u64; 8])
-    requires { ⌜ i < 1024 ⌝ }
-{
-    calls[8 * i] = call[0];
-    calls[8 * i + 1] = call[1];
-    calls[8 * i + 2] = call[2];
-    calls[8 * i + 3] = call[3];
-    calls[8 * i + 4] = call[4];
-    calls[8 * i + 5] = call[5];
-    calls[8 * i + 6] = call[6];
-    calls[8 * i + 7] = call[7];
-}
-
 fn add_call(calls: &mut [u64; WORDS], i: usize, call: &[u64; 8]) -> usize {
     if i >= CALLS {
         return CALLS + 1;
     }
-    store(calls, i, call);
+    copy::words(calls, 8 * i, call);
     i + 1
 }
 

@@ -27,16 +27,10 @@ struct Told {
 pub(crate) fn answer_at(answers: &[u64; WORDS], i: usize) -> [u64; 8]
     requires { ⌜ i < 1024 ⌝ }
 {
-    [
-        answers[8 * i],
-        answers[8 * i + 1],
-        answers[8 * i + 2],
-        answers[8 * i + 3],
-        answers[8 * i + 4],
-        answers[8 * i + 5],
-        answers[8 * i + 6],
-        answers[8 * i + 7],
-    ]
+    let all = &answers[..];
+    let mut own = [0u64; 8];
+    copy::words(&mut own, 0, &all[8 * i..8 * i + 8]);
+    own
 }
 
 // A call's own packets, to the front.

@@ -80,6 +80,30 @@ fn read_off(r: Replayed) -> Left {
     }
 }
 
+fn run_all(
+    o: Opening,
+    samples: &mut [f32; F32_PER_DATAGRAM],
+    calls: &[u64],
+    octets: &[u8; OCTETS],
+    numbers: &[u32; NUMBERS],
+    packets: &mut [u8; PACKETS],
+    places: &mut [f32; PLACES],
+    answers: &mut [u64],
+) -> Left {
+    let settings = o.settings;
+    read_off(replay(
+        settings,
+        o.at,
+        samples,
+        calls,
+        octets,
+        numbers,
+        packets,
+        places,
+        answers,
+    ))
+}
+
 // Runs the first n calls that are gathered, from a session just opened so. Their answers, packets and samples go to the lent buffers.
 pub(crate) fn run(
     o: Opening,
@@ -94,10 +118,8 @@ pub(crate) fn run(
     requires { ⌜ (8 * n ≤ length (now calls)) × (8 * n ≤ length (now answers)) ⌝ }
 {
     let mut samples = [0.0f32; F32_PER_DATAGRAM];
-    let settings = o.settings;
-    let r = replay(
-        settings,
-        o.at,
+    run_all(
+        o,
         &mut samples,
         &calls[0..8 * n],
         octets,
@@ -105,6 +127,5 @@ pub(crate) fn run(
         packets,
         places,
         &mut answers[0..8 * n],
-    );
-    read_off(r)
+    )
 }
