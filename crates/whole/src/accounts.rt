@@ -26,6 +26,7 @@ fn number_at(octets: &[u8; OCTETS], at: usize) -> u32 {
     octets::get_u32(all, at)
 }
 
+// What the call of these numbers was answered; the number is that of its datagram.
 fn note_one(
     table: &mut [u64; TABLE],
     a: Account,
@@ -36,7 +37,7 @@ fn note_one(
     note(table, a, w.reading, number, answer[CODE], answer[VALUE])
 }
 
-// Those of the first n calls.
+// The answers of the first n calls.
 fn note_all(
     n: usize,
     calls: &[u64; WORDS],

@@ -33,14 +33,7 @@ fn open_line(d: Desk, line: &[u8], out: &mut [u8; ROOM]) -> Desk {
     asking(d, OPEN)
 }
 
-// A `state`: there has to be a session.
-fn state_line(d: Desk, line: &[u8], out: &mut [u8; ROOM]) -> Desk {
-    if !d.is_open {
-        return stopped(d, out, Expected::Open, line);
-    }
-    asking(d, NOTHING)
-}
-
+// A call: there has to be a session.
 fn call_line(
     d: Desk,
     line: &[u8],
@@ -79,7 +72,7 @@ fn read_line(
     let mut waiting = [0u32; MOST_NUMBERS];
     let read = read_call(line, d.ip, d.port, &mut call, &mut datagram, &mut waiting);
     match read {
-        Read::Nothing => asking(d, NOTHING),
+        Read::Nothing | Read::State => asking(d, NOTHING),
         Read::Open => open_line(d, line, out),
         Read::Call => call_line(
             d,
@@ -92,7 +85,6 @@ fn read_line(
             numbers,
             out,
         ),
-        Read::State => state_line(d, line, out),
         Read::Unread(e) => stopped(d, out, e, line),
     }
 }

@@ -5,15 +5,16 @@ use encoding::words::words_at;
 use lines::MOST_NUMBERS;
 use lines::MOST_OCTETS;
 
-// The most calls of a session, and their numbers.
+// The most calls of a session, and their numbers. So many that begin, pass, arrive and take in turn have room in all other buffers.
 pub(crate) const CALLS: usize = 1024;
 
 pub(crate) const WORDS: usize = 8192;
 
-// The most octets of all datagrams, and the most waiting numbers in all.
-pub(crate) const OCTETS: usize = 262144;
+// Octets of datagrams.
+pub(crate) const OCTETS: usize = 524288;
 
-pub(crate) const NUMBERS: usize = 16384;
+// Waiting numbers: eight calls with the most of them.
+pub(crate) const NUMBERS: usize = 65544;
 
 // How much is gathered of each. More than there is room for: the last call had none.
 pub(crate) struct List {

@@ -20,10 +20,10 @@ use session::readers::sample_rate;
 use session::readers::waiting_samples;
 use stream::F32_PER_DATAGRAM;
 
-// The most octets of all packet buffers, and the most f32 of all Takes.
-pub(crate) const PACKETS: usize = 1048576;
+// Octets of packet buffers, and f32 of Takes.
+pub(crate) const PACKETS: usize = 2097152;
 
-pub(crate) const PLACES: usize = 65536;
+pub(crate) const PLACES: usize = 131072;
 
 // What the account tells of the session.
 pub(crate) struct Counts {

@@ -24,29 +24,7 @@ fn put_tuned(out: &mut [u8; ROOM], at: usize, t: Tuning) -> usize {
     )
 }
 
-// The answers of n calls, the account, and what is read off the session.
-fn put_run(
-    n: usize,
-    left: Left,
-    calls: &[u64; WORDS],
-    octets: &[u8; OCTETS],
-    packets: &[u8; PACKETS],
-    places: &[f32; PLACES],
-    answers: &[u64; WORDS],
-    out: &mut [u8; ROOM],
-    at: usize,
-) -> usize
-    requires { ⌜ n ≤ 1024 ⌝ }
-{
-    let counted = left.counted;
-    let tuned = left.tuned;
-    let one = put(out, at, b"opened\n");
-    let two = replies::tell(n, calls, packets, places, answers, out, one);
-    let three = accounts::tell(n, calls, octets, answers, counted, out, two);
-    put_tuned(out, three, tuned)
-}
-
-// Of a session with n calls: that its settings are refused, that there is no room, or all that it gave.
+// Of a session with n calls: that its settings are refused, that there is no room, or its answers, its account and what is read off it.
 pub(crate) fn tell(
     d: Desk,
     n: usize,
@@ -60,14 +38,16 @@ pub(crate) fn tell(
 ) -> Desk
     requires { ⌜ n ≤ 1024 ⌝ }
 {
+    let counted = left.counted;
+    let tuned = left.tuned;
     if left.refused != 0 {
         return written(d, filled(out, d.out, b"refused #\n", &[left.refused]));
     }
     if !left.is_run {
         return too_long(d, out);
     }
-    written(
-        d,
-        put_run(n, left, calls, octets, packets, places, answers, out, d.out),
-    )
+    let one = put(out, d.out, b"opened\n");
+    let two = replies::tell(n, calls, packets, places, answers, out, one);
+    let three = accounts::tell(n, calls, octets, answers, counted, out, two);
+    written(d, put_tuned(out, three, tuned))
 }
