@@ -17,7 +17,7 @@ use marking::account::note;
 use marking::stretches;
 use std::num::wrapping_add_usize;
 
-// The number of the I/Q datagram that begins here.
+// The number of the I/Q datagram that begins here. Of a call without one it is not noted.
 fn number_at(octets: &[u8; OCTETS], at: usize) -> u32 {
     let all = &octets[..];
     if at > OCTETS - 4 {

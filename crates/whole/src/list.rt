@@ -5,7 +5,7 @@ use encoding::words::words_at;
 use lines::MOST_NUMBERS;
 use lines::MOST_OCTETS;
 
-// The most calls of a session, and their numbers. So many that begin, pass, arrive and take in turn have room in all other buffers.
+// The most calls of a session, and their numbers. The other rooms are enough for so many that begin, pass, arrive and take in turn.
 pub(crate) const CALLS: usize = 1024;
 
 pub(crate) const WORDS: usize = 8192;

@@ -33,7 +33,7 @@ pub(crate) fn answer_at(answers: &[u64; WORDS], i: usize) -> [u64; 8]
     own
 }
 
-// A call's own packets, to the front.
+// A call's own packets, to the front. Of a list that was run they are within the room.
 fn put_packets(packets: &[u8; PACKETS], at: usize, n: usize, own: &mut [u8; MOST_PACKETS]) {
     let all = &packets[..];
     if n > MOST_PACKETS {
@@ -45,7 +45,7 @@ fn put_packets(packets: &[u8; PACKETS], at: usize, n: usize, own: &mut [u8; MOST
     copy::octets(own, 0, &all[at..at + n]);
 }
 
-// A call of these numbers, on its own parts of the buffers.
+// The answer of the call of these numbers, whose packets and samples are next in the buffers.
 fn tell_one(
     t: Told,
     w: Words,

@@ -6,6 +6,7 @@ use super::desk::NOTHING;
 use super::desk::OPEN;
 use super::desk::empty;
 use super::desk::flushed;
+use super::desk::too_long;
 use super::line::read;
 use super::list::CALLS;
 use super::list::NUMBERS;
@@ -100,7 +101,7 @@ fn ended(
         return d;
     }
     if n > CALLS {
-        return d;
+        return too_long(d, out);
     }
     run_session(o, d, n, calls, octets, numbers, out)
 }

@@ -24,7 +24,7 @@ fn put_tuned(out: &mut [u8; ROOM], at: usize, t: Tuning) -> usize {
     )
 }
 
-// Of a session with n calls: that its settings are refused, that there is no room, or its answers, its account and what is read off it.
+// Of a session with n calls: that its settings are refused, that there is no room, or its answers, account and what is read off it.
 pub(crate) fn tell(
     d: Desk,
     n: usize,
