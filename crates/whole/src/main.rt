@@ -1,0 +1,11 @@
+// Reads lists of calls as text (docs/CALLS.md) from standard input, runs each session's calls at once, and writes their answers, the
+// session's account and what a user reads off it. A `state` line is no call, and is skipped.
+mod between;
+mod line;
+mod run;
+mod sessions;
+mod tell;
+
+fn main() {
+    run::run();
+}
