@@ -16,11 +16,11 @@ use Rattle.account.specs.Whole.{countNotZero, ahead, behind, isNext, fit
 use Rattle.account.specs.Book.{fitIn, belowIn}
 use Rattle.account.specs.Exact.{verdictIn}
 
-and-left : (a b : Bool) → a && b ≡ true → a ≡ true
+pub and-left : (a b : Bool) → a && b ≡ true → a ≡ true
 and-left true b h = refl
 and-left false b h = h
 
-and-right : (a b : Bool) → a && b ≡ true → b ≡ true
+pub and-right : (a b : Bool) → a && b ≡ true → b ≡ true
 and-right true b h = h
 and-right false b h = cc
 

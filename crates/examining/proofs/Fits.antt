@@ -1,21 +1,19 @@
 -- A call whose numbers are within their bounds is always run. Assumes nothing.
-use Prim.Native.Nat.{ℕ, suc, _+_, _*_, _/_, _%_, _≤_, _<_, _^_}
+use Prim.Native.Nat.{ℕ, _/_, _%_, _≤_, _^_}
 use mathlib.Core.Path.{_≡_, refl, sym, ap, _∙_}
 use mathlib.Core.Bool.{Bool, true, _&&_}
 use mathlib.Core.List.{List}
 use lib.ListN.{length}
-use lib.Dec.{leb, eqb}
+use lib.Dec.{eqb}
 use lib.Ieee.{Float}
 use native.Mathlib.Omega.{arith}
 use borrow.Author.Tests.{le-leb, eq-eqb, eqb-true}
-use Rattle.base.specs.Pick.{pick}
 use Rattle.base.proofs.Picks.{pick-t, pick-either}
 use Rattle.model.specs.State.{State}
 use Rattle.encoding.specs.Words.{wordsAt, isCall, lendsPackets, ifUsed, takenBy, nothing, within}
 use Rattle.encoding.specs.Lists.{Lent, room, takenWith, checkFrom, outcomeIn, outcomeOf, isRan}
 use Rattle.replay.specs.Runs.{Left, carried, Carries}
 use Rattle.encoding.specs.declared.words.Words.{Words}
-use Rattle.encoding.specs.declared.words.Amounts.{Amounts}
 use Rattle.encoding.specs.declared.check.Outcome.{Outcome}
 use Rattle.encoding.specs.declared.check.Outcome.the-variants.{Ran}
 use Rattle.examining.specs.Marks.{Rooms}

@@ -8,7 +8,7 @@ use lib.Dec.{T, eqb}
 use lib.Ieee.{Float}
 use borrow.Author.Tests.{not-true, not-false, eq-eqb}
 use Rattle.base.proofs.Picks.{pick-t, pick-f}
-use Rattle.model.specs.Settings.{settingsAnswer, settingsTold, isGiven, accepts}
+use Rattle.model.specs.Settings.{settingsAnswer, isGiven, accepts}
 use Rattle.model.specs.State.{State}
 use Rattle.model.specs.declared.session.Session.{Session}
 use Rattle.model.specs.declared.settings.Settings.{Settings}

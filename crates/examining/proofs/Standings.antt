@@ -1,7 +1,7 @@
 -- An account stands when a session is opened, after each call that is run and noted, and is demand 3's. Assumes nothing.
 use Prim.Native.Nat.{ℕ, _+_, _*_, _/_, _%_, _^_}
 use mathlib.Core.Path.{_≡_, refl, sym, ap, subst, _∙_}
-use mathlib.Core.Bool.{Bool, true, false}
+use mathlib.Core.Bool.{true}
 use mathlib.Core.List.{List, [], _∷_, _++_, append-nil, append-assoc}
 use lib.ListN.{length, getD}
 use lib.Seq.{getD-take}
@@ -17,10 +17,10 @@ use Rattle.model.specs.State.{State, left, waitingIn}
 use Rattle.model.specs.Session.{step, openedWith, session}
 use Rattle.model.specs.declared.settings.Settings.{Settings}
 use Rattle.account.specs.Ledger.{callsOf}
-use Rattle.encoding.specs.Words.{wordsAt, takenBy, nothing, callOf}
+use Rattle.encoding.specs.Words.{wordsAt, takenBy, nothing}
 use Rattle.encoding.specs.Lists.{Lent, part, isRan, callAt, callsFrom, decoded}
 use Rattle.answers.specs.Code.{answerOf, answerIn}
-use Rattle.replay.specs.Runs.{host, Carries}
+use Rattle.replay.specs.Runs.{host}
 use Rattle.replay.specs.Replay.{replyAt, repliesFrom, repliesIn, numbered}
 use Rattle.replay.specs.Chunks.{Runs}
 use Rattle.replay.proofs.Chunks.{runs-append, trace-any, final-any, calls-of, carries-runs}
@@ -35,7 +35,6 @@ use Rattle.tally.specs.declared.record.Record.{Record}
 use Rattle.tally.specs.declared.stretch.Stretch.{Stretch}
 use Rattle.tally.specs.declared.account.Account.{Account}
 use Rattle.tally.specs.declared.account.Noted.{Noted}
-use Rattle.encoding.specs.declared.check.Outcome.{Outcome}
 use Rattle.encoding.specs.declared.check.Outcome.the-variants.{Ran}
 use Rattle.examining.specs.Marks.{noteRun, tableRun, Marks}
 use Rattle.examining.specs.Stands.{Stands}

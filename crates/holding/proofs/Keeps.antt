@@ -1,6 +1,6 @@
 -- Where the session in hand says that its account stands, it does. Assumes nothing.
 use Prim.Native.Nat.{ℕ, _*_}
-use mathlib.Core.Path.{_≡_, refl, sym, ap, subst, _∙_}
+use mathlib.Core.Path.{_≡_, refl, sym, subst}
 use mathlib.Core.Bool.{Bool, true, false, not, _&&_}
 use mathlib.Core.List.{List}
 use lib.ListN.{length}
@@ -13,11 +13,11 @@ use Rattle.model.specs.Open.{opened}
 use Rattle.model.specs.State.{State}
 use Rattle.model.specs.declared.session.Session.{Session}
 use Rattle.model.specs.declared.settings.Settings.{Settings}
+use Rattle.account.proofs.Verdict.{and-left, and-right}
 use Rattle.lines.specs.Call.{Fit}
 use Rattle.encoding.specs.Lists.{Lent}
 use Rattle.tally.specs.Table.{mostStretches, empty}
 use Rattle.tally.specs.declared.account.Account.{Account}
-use Rattle.encoding.specs.declared.check.Outcome.{Outcome}
 use Rattle.encoding.specs.declared.check.Outcome.the-variants.{Ran}
 use Rattle.examining.specs.Marks.{Sits, Marks}
 use Rattle.examining.specs.Stands.{Stands, Bounded}
@@ -51,14 +51,6 @@ called-ran : (r : Sitting) (st : State) (l : Lent) (a : Account) (answers₀ ans
     → Marks r st l a answers₀ answers packets places st′ t t′ → Fit (l .calls) → r .outcome ≡ Ran
 called-ran r st l a answers₀ answers packets places st′ t t′ m f = bounded-ran (r .outcome) st l answers₀ answers packets places st′ (m .carries) (m .one) (m .lent) (fit-bounded (l .calls) f)
 
-and-first : (a b : Bool) → a && b ≡ true → a ≡ true
-and-first true b h = refl
-and-first false b h = h
-
-and-last : (a b : Bool) → a && b ≡ true → b ≡ true
-and-last true b h = h
-and-last false b h = cc
-
 called-holds : (h : Held) (r : Sitting) (samples samples′ : List Float) (l : Lent) (answers₀ answers packets : List ℕ) (places : List Float) (t t′ : List ℕ) (ran : Bool)
     → Marks r (joined (h .sitting .session) samples) l (h .sitting .account) answers₀ answers packets places (joined (r .session) samples′) t t′ → Fit (l .calls) → Holds h samples t
     → Holds (record { sitting = r; stands = h .stands && ran && r .fits; refused = 0 }) samples′ t′
@@ -66,8 +58,8 @@ called-holds h r samples samples′ l answers₀ answers packets places t t′ r
     record {
       account = λ e.
           marked-stands r _ l (h .sitting .account) answers₀ answers packets places _ t t′ m (called-ran r _ l _ answers₀ answers packets places _ t t′ m f)
-          (and-last (h .stands && ran) (r .fits) e)
-          (x .account (and-first (h .stands) ran (and-first (h .stands && ran) (r .fits) e)));
+          (and-right (h .stands && ran) (r .fits) e)
+          (x .account (and-left (h .stands) ran (and-left (h .stands && ran) (r .fits) e)));
     }
 
 -- as the code puts them together

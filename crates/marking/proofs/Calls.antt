@@ -1,16 +1,14 @@
 -- What the code notes of a call's numbers is what is kept of that call. Assumes nothing.
 use Prim.Native.Nat.{ℕ, _+_, _*_, _%_, _^_}
-use mathlib.Core.Path.{_≡_, refl, sym, ap, subst, _∙_}
+use mathlib.Core.Path.{_≡_, refl, sym, ap, _∙_}
 use mathlib.Core.Logic.{_≢_}
-use mathlib.Core.Bool.{Bool, true, false}
-use mathlib.Core.List.{List, [], _∷_, _++_}
+use mathlib.Core.Bool.{true}
+use mathlib.Core.List.{List, [], _∷_}
 use lib.ListN.{length}
 use lib.Ieee.{Float}
-use lib.Dec.{eqb}
 use native.Mathlib.Omega.{arith}
 use native.Mathlib.Decide.{ℕ-discrete}
 use borrow.Author.Tests.{eqb-true, eq-eqb, ne-eqb}
-use Rattle.base.specs.Pick.{pick}
 use Rattle.base.proofs.Picks.{pick-t, pick-f, pick-either}
 use Rattle.model.specs.Answer.{Answer, refused, done, heard, took, slot, flag}
 use Rattle.model.specs.Host.{Call, Arrival, Take}
@@ -18,14 +16,13 @@ use Rattle.encoding.specs.Words.{senderOf, takenBy, callOf}
 use Rattle.encoding.specs.Lists.{part}
 use Rattle.encoding.specs.declared.words.Words.{Words}
 use Rattle.tally.specs.Stretches.{notedAll}
-use Rattle.tally.specs.Table.{mostStretches, stretchesOf, fitting, noteIn}
+use Rattle.tally.specs.Table.{mostStretches, stretchesOf, fitting}
 use Rattle.tally.proofs.Notes.{note-holds, note-handed, note-size}
 use Rattle.tally.specs.declared.record.Record.{Record}
-use Rattle.tally.specs.declared.stretch.Stretch.{Stretch}
 use Rattle.tally.specs.declared.account.Account.{Account}
 use Rattle.tally.specs.declared.account.Noted.{Noted}
-use Rattle.marking.specs.Records.{numberIn, heardAs, recordOf, pairsOf}
-use Rattle.marking.specs.Noting.{notedBy, tableAfter, handedBy, heardIn, noteOf, tableOf}
+use Rattle.marking.specs.Records.{heardAs, recordOf, pairsOf}
+use Rattle.marking.specs.Noting.{notedBy, tableAfter, handedBy, noteOf, tableOf}
 
 -- ---- the call of these numbers
 

@@ -4,13 +4,12 @@ use mathlib.Core.Path.{_≡_, refl, sym, ap, subst, _∙_}
 use mathlib.Core.Bool.{Bool, true, false, cond}
 use mathlib.Core.List.{List, [], _∷_, _++_, map}
 use mathlib.Core.Option.{Option, some, none}
-use lib.ListN.{length, length-append}
+use lib.ListN.{length}
 use lib.IntN.{ℤ, pos, _+ℤ_, _-ℤ_, _*ℤ_, +ℤ-idr}
 use native.Mathlib.Omega.{arith}
 use Rattle.base.specs.Each.{Each}
 use Rattle.sequence.specs.declared.SeqEvent.{SeqEvent}
 use Rattle.sequence.specs.declared.SeqEvent.the-variants.{InOrder, Gap, Stale, Restart}
-use Rattle.model.specs.Answer.{Tells}
 use Rattle.model.specs.Host.{Reply}
 use Rattle.model.specs.declared.settings.Settings.{Settings}
 use Rattle.account.specs.Whole.{countOf, ahead, Near}
@@ -21,7 +20,6 @@ use Rattle.account.proofs.Numbers.{count-small}
 use Rattle.account.proofs.Verdict.{Says}
 use Rattle.account.proofs.Stretches.{past-e, distance-of, verdictOf, says-at, first-in}
 use Rattle.tally.specs.Stretch.{Even}
-use Rattle.tally.specs.declared.stretch.Stretch.{Stretch}
 use Rattle.marking.specs.Spans.{Span, isRestart, Cut, cut, spansOf, toldOf}
 use Rattle.marking.proofs.Onward.{highest-on, rises-by}
 use Rattle.marking.proofs.Spans.{Fact, Chain, after-accepted, after-stale}

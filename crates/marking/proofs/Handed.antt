@@ -1,7 +1,7 @@
 -- How many pairs the Takes handed out and how many wait, over a list of calls. Assumes nothing.
-use Prim.Native.Nat.{ℕ, _+_, _-_, _*_, _/_, _≤_, min}
+use Prim.Native.Nat.{ℕ, _+_, _-_, _*_, _≤_}
 use mathlib.Core.Path.{_≡_, refl, sym, ap, _∙_}
-use mathlib.Core.List.{List, [], _∷_, _++_}
+use mathlib.Core.List.{List, [], _∷_}
 use lib.ListN.{length, take, drop, length-take, length-drop, length-append}
 use lib.Seq.{take-at}
 use lib.Ieee.{Float}
@@ -9,11 +9,9 @@ use native.Mathlib.Omega.{arith}
 use Rattle.base.proofs.Picks.{pick-either}
 use Rattle.octets.specs.Written.{written}
 use Rattle.octets.proofs.Writes.{written-front}
-use Rattle.sequence.specs.declared.SeqEvent.{SeqEvent}
-use Rattle.model.specs.Answer.{tells}
-use Rattle.model.specs.Sample.{Sample, pairs}
+use Rattle.model.specs.Sample.{pairs}
 use Rattle.model.specs.Routing.{Routed, iq, status, ignored, malformed}
-use Rattle.model.specs.Host.{Incoming, Call, Begin, Pass, Arrival, Take, Close, TakeMissing, TakeDiscontinuity, TakeStalled, Step, Host, trace, final}
+use Rattle.model.specs.Host.{Incoming, Call, Begin, Pass, Arrival, Take, Close, TakeMissing, TakeDiscontinuity, TakeStalled, Step, trace, final}
 use Rattle.model.specs.State.{State, left, waitingIn}
 use Rattle.model.specs.Arrival.{hear, heardAs, heardIq, arrived}
 use Rattle.model.specs.Take.{front, handOut, handable}

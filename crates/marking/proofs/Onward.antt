@@ -1,37 +1,25 @@
 -- A stretch that is told on, arrival by arrival, is told as the whole numbers of its arrivals say. Assumes nothing.
-use Prim.Native.Nat.{ℕ, zero, suc, _+_, _-_, _*_, _%_, _≤_, _<_, _^_}
-use mathlib.Core.Path.{_≡_, refl, sym, ap, subst, _∙_}
-use mathlib.Core.Logic.{_≢_}
-use mathlib.Core.Bool.{Bool, true, false, cond}
-use mathlib.Core.List.{List, [], _∷_, _++_, map}
-use mathlib.Core.Option.{Option, some, none}
+use Prim.Native.Nat.{ℕ, _+_, _-_, _%_, _<_, _^_}
+use mathlib.Core.Path.{_≡_, refl, sym, ap, _∙_}
+use mathlib.Core.Bool.{true, false}
+use mathlib.Core.List.{List, [], _∷_}
 use lib.ListN.{length, length-append}
-use lib.Dec.{T, ltb}
-use lib.IntN.{ℤ, pos, negsuc, _+ℤ_, _-ℤ_, +ℤ-assoc, +ℤ-comm, +ℤ-idr, +ℤ-negℤ-cancel}
+use lib.IntN.{ℤ, pos, negsuc, _+ℤ_, _-ℤ_, +ℤ-assoc, +ℤ-idr}
 use native.Mathlib.Nat.{zero-add}
 use native.Mathlib.Omega.{arith}
-use borrow.Author.Tests.{ltb-true, ltb-false}
-use Rattle.base.specs.Pick.{pick}
-use Rattle.base.specs.Each.{Each}
+use borrow.Author.Tests.{ltb-true}
 use Rattle.base.proofs.Picks.{pick-either}
-use Rattle.sequence.specs.declared.SeqEvent.{SeqEvent}
-use Rattle.sequence.specs.declared.SeqEvent.the-variants.{InOrder, Gap, Stale, Restart}
 use Rattle.model.proofs.Pairs.{datagram-samples}
-use Rattle.model.specs.declared.settings.Settings.{Settings}
-use Rattle.account.specs.Whole.{countOf, ahead, behind, Near, higher, fits, fitsBelow, verdict}
-use Rattle.account.specs.Book.{Book, limitIn, fit, missing}
-use Rattle.account.specs.Ledger.{Entry, fitting, lateEntry, acceptedIn, samplesIn, samplesOf, missingTold, highest}
-use Rattle.account.specs.Demand3.{Lies}
-use Rattle.account.specs.Exact.{verdictIn}
+use Rattle.account.specs.Whole.{countOf, ahead, higher}
+use Rattle.account.specs.Book.{missing}
+use Rattle.account.specs.Ledger.{Entry, lateEntry, acceptedIn, samplesIn, samplesOf, missingTold, highest}
 use Rattle.account.proofs.Numbers.{from-distance, count-on, count-small}
-use Rattle.account.proofs.Verdict.{Says, says, as-above}
+use Rattle.account.proofs.Verdict.{says}
 use Rattle.account.proofs.Stretches.{distance-of, is-higher}
-use Rattle.tally.specs.Stretch.{sum, above, firstOf, moreOf}
-use Rattle.tally.specs.Stretches.{after, noted, notedAll}
-use Rattle.tally.specs.declared.record.Event.{Event}
-use Rattle.tally.specs.declared.record.Record.{Record}
+use Rattle.tally.specs.Stretch.{sum, above, moreOf}
+use Rattle.tally.specs.Stretches.{after}
 use Rattle.tally.specs.declared.stretch.Stretch.{Stretch}
-use Rattle.marking.specs.Spans.{Span, isRestart, Cut, cut, lastReading, toldOf}
+use Rattle.marking.specs.Spans.{lastReading}
 use Rattle.marking.proofs.Streams.{recordIn}
 
 -- ---- whole numbers

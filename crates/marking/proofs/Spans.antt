@@ -1,12 +1,10 @@
 -- The stretches that are told are demand 3's, where every answer is the book's. Assumes nothing.
 use Prim.Native.Nat.{ℕ, _+_, _*_, _%_, _<_, _^_}
 use mathlib.Core.Path.{_≡_, refl, sym, ap, subst, _∙_}
-use mathlib.Core.Logic.{_≢_}
 use mathlib.Core.Bool.{Bool, true, false, cond}
-use mathlib.Core.List.{List, [], _∷_, _++_, map, append-assoc}
+use mathlib.Core.List.{List, [], _∷_, _++_, map}
 use mathlib.Core.Option.{Option, some, none}
 use lib.ListN.{length, length-append}
-use lib.Dec.{T}
 use lib.IntN.{ℤ, pos, negsuc, _+ℤ_, _-ℤ_}
 use native.Mathlib.Nat.{zero-add}
 use native.Mathlib.Omega.{arith}
@@ -27,12 +25,11 @@ use Rattle.account.proofs.Verdict.{Says}
 use Rattle.account.proofs.Stretches.{past-e, verdictOf, nextOf, next-is, says-at, first-in}
 use Rattle.tally.specs.Stretch.{firstOf, moreOf}
 use Rattle.tally.specs.Stretches.{after, notedAll}
-use Rattle.tally.specs.Stretches as Stretches
 use Rattle.tally.proofs.Notes.{noted-behind}
 use Rattle.tally.specs.declared.record.Record.{Record}
 use Rattle.tally.specs.declared.stretch.Stretch.{Stretch}
 use Rattle.marking.specs.Records.{eventOf}
-use Rattle.marking.specs.Spans.{Span, isRestart, Cut, cut, spansOf, lastReading, toldOf}
+use Rattle.marking.specs.Spans.{isRestart, Cut, cut, spansOf, toldOf}
 use Rattle.marking.proofs.Streams.{eventIn, recordIn}
 use Rattle.marking.proofs.Onward.{onward, Counts, onward-none, onward-stale, counts-on, onward-more}
 

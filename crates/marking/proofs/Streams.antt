@@ -1,16 +1,14 @@
 -- The records of a list of calls are its arrivals, as demand 3's book has them. Assumes nothing.
 use Prim.Native.Nat.{ℕ}
-use mathlib.Core.Path.{_≡_, refl, sym, ap, subst, _∙_}
-use mathlib.Core.Bool.{Bool, true, false, not}
+use mathlib.Core.Path.{_≡_, refl, sym, ap, _∙_}
+use mathlib.Core.Bool.{Bool, true, false}
 use mathlib.Core.List.{List, [], _∷_, _++_, map}
 use mathlib.Core.Option.{Option, some, none}
 use lib.ListN.{length}
-use lib.Dec.{eqb}
 use lib.IntN.{ℤ}
 use native.Mathlib.Omega.{arith}
 use borrow.Author.Tests.{eqb-true, not-false, le-ltb}
-use Rattle.base.specs.Pick.{pick}
-use Rattle.base.specs.Told.{Told, gives, refused}
+use Rattle.base.specs.Told.{Told, refused}
 use Rattle.base.proofs.Picks.{pick-f, pick-either}
 use Rattle.octets.specs.Number.{beAt}
 use Rattle.iq.specs.Iq.{rows, countOf, headerTold}
@@ -22,7 +20,7 @@ use Rattle.model.specs.Host.{Incoming, Call, Begin, Pass, Arrival, Take, Close,
 use Rattle.model.specs.declared.sender.Sender.{Sender}
 use Rattle.model.specs.declared.sender.Sender.the-variants.{V4, V6}
 use Rattle.model.specs.declared.settings.Settings.{Settings}
-use Rattle.account.specs.Book.{News, Quiet, Began, Took, Came, brought, newsOf, news, Book, noted}
+use Rattle.account.specs.Book.{News, brought, newsOf, news, Book, noted}
 use Rattle.account.specs.Ledger.{Sent, callsOf, lineOf, paired, Entry, entry, ledger}
 use Rattle.account.specs.Exact.{Exact, AllLines}
 use Rattle.tally.specs.declared.record.Event.{Event}

@@ -1,9 +1,9 @@
 -- The account of a list of calls is demand 3's: for all accepted settings, opening readings, lists of calls and numberings. Assumes
 -- nothing.
-use Prim.Native.Nat.{ℕ, _+_, _%_, _≤_, _<_, _^_}
+use Prim.Native.Nat.{ℕ, _+_, _%_, _<_, _^_}
 use mathlib.Core.Path.{_≡_, refl, sym, ap, subst, _∙_}
 use mathlib.Core.Bool.{Bool, true, false, cond}
-use mathlib.Core.List.{List, [], _∷_, _++_, map}
+use mathlib.Core.List.{List, [], _∷_, map}
 use mathlib.Core.Option.{Option, some, none}
 use lib.ListN.{length, length-append}
 use lib.Dec.{T}
@@ -20,22 +20,20 @@ use Rattle.model.specs.Session.{openedWith, session}
 use Rattle.model.specs.declared.settings.Settings.{Settings}
 use Rattle.account.specs.Whole.{countOf}
 use Rattle.account.specs.Book.{blank, limitIn}
-use Rattle.account.specs.Ledger.{Sent, callsOf, Line, paired, handedOut, Entry, ledger, fitting, lateEntry, acceptedIn, samplesOf}
+use Rattle.account.specs.Ledger.{Sent, callsOf, paired, handedOut, Entry, ledger, fitting, lateEntry, acceptedIn, samplesOf}
 use Rattle.account.specs.Demand3.{Lies, Agrees}
-use Rattle.account.specs.Exact.{verdictIn}
 use Rattle.account.proofs.Verdict.{Rules, rules}
 use Rattle.account.proofs.Stretches.{verdictOf, first-in, nextOf}
 use Rattle.account.proofs.Simulate.{accepted-append, samples-append}
 use Rattle.account.proofs.Demand3.{demand3, tells-all}
 use Rattle.tally.specs.Stretch.{plusOf, Even}
 use Rattle.tally.specs.Stretches.{notedAll, noSums, sumsFrom, sumsOf}
-use Rattle.tally.specs.declared.record.Record.{Record}
 use Rattle.tally.specs.declared.stretch.Stretch.{Stretch}
 use Rattle.tally.specs.declared.stretch.Sums.{Sums}
-use Rattle.marking.specs.Records.{recordsOf, pairsIn, stretchesTold}
+use Rattle.marking.specs.Records.{stretchesTold}
 use Rattle.marking.specs.Spans.{Span, isRestart, Cut, cut, spansOf, arrivalsIn, toldOf}
-use Rattle.marking.specs.Key.{Keyed, Key}
-use Rattle.marking.proofs.Streams.{recordIn, records-are}
+use Rattle.marking.specs.Key.{Key}
+use Rattle.marking.proofs.Streams.{records-are}
 use Rattle.marking.proofs.Spans.{Fact, Chain, chained, stretches-are}
 use Rattle.marking.proofs.Splits.{splits, sums-each}
 use Rattle.marking.proofs.Handed.{all-sized, pairs-are, waits-are}

@@ -14,7 +14,7 @@ use Rattle.octets.specs.Written.{written}
 use Rattle.octets.proofs.Writes.{length-written, getD-written-in, getD-written-out}
 use Rattle.tally.specs.Stretch.{firstOf, moreOf}
 use Rattle.tally.specs.Stretches.{after, noted, notedAll}
-use Rattle.tally.specs.Table.{mostStretches, numbersOf, stretchAt, kept, endingIn, stretchesOf, holding, fitting, begins, byEvent, noteIn, tableBy, tableIn}
+use Rattle.tally.specs.Table.{mostStretches, numbersOf, stretchAt, kept, endingIn, stretchesOf, holding, fitting, byEvent, noteIn, tableBy, tableIn}
 use Rattle.tally.specs.declared.record.Event.{Event}
 use Rattle.tally.specs.declared.record.Event.the-variants.{InOrder, Gap, Stale, Restart}
 use Rattle.tally.specs.declared.record.Record.{Record}
@@ -29,11 +29,6 @@ pub noted-last : (ss : List Stretch) (s : Stretch) (x : Record) → noted (ss ++
 noted-last [] s x = refl
 noted-last (r ∷ []) s x = refl
 noted-last (r ∷ q ∷ ss) s x = ap (λ (l : List Stretch). r ∷ l) (noted-last (q ∷ ss) s x)
-
--- one record after others
-pub noted-after : (ss : List Stretch) (xs : List Record) (x : Record) → notedAll ss (xs ++ (x ∷ [])) ≡ noted (notedAll ss xs) x
-noted-after ss [] x = refl
-noted-after ss (y ∷ xs) x = noted-after (noted ss y) xs x
 
 -- ---- those before the last stay
 

@@ -1,24 +1,21 @@
 -- The stretches that an account holds: their number, their places, and that what is noted is noted in them. Assumes nothing.
 use Prim.Native.Nat.{ℕ, zero, suc, _+_, _-_, _*_, _≤_, _<_}
 use mathlib.Core.Path.{_≡_, refl, sym, ap, _∙_}
-use mathlib.Core.Logic.{_≢_, inl}
-use mathlib.Core.Bool.{Bool, true, false}
-use mathlib.Core.List.{List, [], _∷_, _++_, append-assoc}
+use mathlib.Core.Logic.{_≢_}
+use mathlib.Core.Bool.{false}
+use mathlib.Core.List.{List, [], _∷_}
 use lib.ListN.{length, getD, length-append, List·getD-append, List·getD-eq-default}
 use lib.Seq.{getD-at}
-use lib.Dec.{ltb, eqb}
 use native.Mathlib.Omega.{arith}
 use native.Mathlib.Decide.{ℕ-discrete}
 use borrow.Author.Tests.{lt-ltb, le-ltb, eq-eqb, ne-eqb}
-use Rattle.base.specs.Pick.{pick}
 use Rattle.base.proofs.Picks.{pick-t, pick-f}
 use Rattle.octets.specs.Written.{written}
-use Rattle.octets.proofs.Writes.{getD-written-in, getD-written-out}
-use Rattle.tally.specs.Stretch.{firstOf, moreOf}
-use Rattle.tally.specs.Stretches.{after, noted}
-use Rattle.tally.specs.Table.{mostStretches, blank, numbersOf, stretchAt, kept, endingIn, stretchesOf, holding, fitting, begins, byEvent, noteIn, tableBy, tableIn}
+use Rattle.tally.specs.Stretch.{firstOf}
+use Rattle.tally.specs.Stretches.{noted}
+use Rattle.tally.specs.Table.{mostStretches, blank, numbersOf, stretchAt, kept, endingIn, holding, fitting, begins, byEvent, noteIn, tableBy, tableIn}
 use Rattle.tally.specs.declared.record.Event.{Event}
-use Rattle.tally.specs.declared.record.Event.the-variants.{InOrder, Gap, Stale, Restart}
+use Rattle.tally.specs.declared.record.Event.the-variants.{Restart}
 use Rattle.tally.specs.declared.record.Record.{Record}
 use Rattle.tally.specs.declared.stretch.Stretch.{Stretch}
 use Rattle.tally.specs.declared.account.Account.{Account}

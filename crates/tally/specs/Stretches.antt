@@ -1,5 +1,4 @@
 -- The stretches of a stream, from the records of its arrivals in order, and their sums. Definitions only.
-use Prim.Native.Nat.{ℕ}
 use mathlib.Core.List.{List, [], _∷_}
 use Rattle.tally.specs.Stretch.{firstOf, moreOf, plusOf}
 use Rattle.tally.specs.declared.record.Event.{Event}

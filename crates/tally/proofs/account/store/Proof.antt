@@ -1,5 +1,4 @@
 -- `tally::account::store` meets its contract. Assumes nothing.
-use Prim.Native.Nat.{_+_}
 use lib.ListN.{length-set}
 use native.Mathlib.Omega.{arith}
 use Rattle.octets.proofs.Writes.{stores-written}
