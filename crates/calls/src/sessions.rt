@@ -3,7 +3,7 @@
 ghost use Rattle.console.specs.Input.{Within};
 ghost use Rattle.examining.specs.Stands.{Standing};
 ghost use Rattle.holding.specs.Held.{Holds, Kept};
-ghost use Rattle.desk.specs.Asked.{Asks};
+ghost use Rattle.desk.specs.Asked.{Asks, IsRun};
 use console::input::Input;
 use console::input::ROOM as INPUT;
 use console::output::ROOM;
@@ -42,7 +42,7 @@ fn opened(
     holding::opened(&all[start..end], samples, table)
 }
 
-// After the line in hand, which asks for this.
+// After the line in hand, which asks for this. A call is run: its numbers are what the line was read as.
 pub(crate) fn after(
     h: Held,
     asks: u8,
@@ -61,6 +61,7 @@ pub(crate) fn after(
     requires { ⌜ Asks asks (now call) ⌝ }
     requires { ⌜ Holds h (now samples) (now table) ⌝ }
     ensures { λ r. ⌜ Holds r (now (samples .exit)) (now (table .exit)) ⌝ }
+    ensures { λ r. ⌜ IsRun asks (r .sitting .outcome) ⌝ }
 {
     if asks == CALL {
         return called(

@@ -4,7 +4,8 @@ use mathlib.Core.Path.{_≡_, sym, _∙_}
 use mathlib.Core.Logic.{_≢_, _⊎_, inl, inr}
 use mathlib.Core.List.{List}
 use Rattle.lines.specs.Call.{Fit}
-use Rattle.desk.specs.Asked.{Asks}
+use Rattle.encoding.specs.declared.check.Outcome.{Outcome}
+use Rattle.desk.specs.Asked.{Asks, IsRun}
 
 -- one that asks for none
 pub asks-none : (asks : ℕ) (call : List ℕ) → asks ≢ 1 → Asks asks call
@@ -21,3 +22,7 @@ asks-it asks k call (inr e) f = record { fit = f }
 pub asks-other : (asks k : ℕ) (call : List ℕ) → (asks ≢ 1) ⊎ (asks ≡ k) → k ≢ 1 → Asks asks call
 asks-other asks k call (inl n) m = asks-none asks call n
 asks-other asks k call (inr e) m = asks-that asks k call e m
+
+-- of one that asks for no call nothing is claimed
+pub runs-none : (asks : ℕ) (outcome : Outcome) → asks ≢ 1 → IsRun asks outcome
+runs-none asks outcome n = record { ran = λ e. absurd (n e) }

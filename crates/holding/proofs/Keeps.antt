@@ -1,6 +1,6 @@
 -- Where the session in hand says that its account stands, it does. Assumes nothing.
 use Prim.Native.Nat.{ℕ, _*_}
-use mathlib.Core.Path.{_≡_, refl, sym, subst}
+use mathlib.Core.Path.{_≡_, refl, sym, ap, subst, _∙_}
 use mathlib.Core.Bool.{Bool, true, false, not, _&&_}
 use mathlib.Core.List.{List}
 use lib.ListN.{length}
@@ -10,22 +10,24 @@ use native.Mathlib.Omega.{arith}
 use borrow.Author.Tests.{eqb-true, not-true, not-false}
 use Rattle.model.specs.Gives.{joined}
 use Rattle.model.specs.Open.{opened}
-use Rattle.model.specs.State.{State}
 use Rattle.model.specs.declared.session.Session.{Session}
 use Rattle.model.specs.declared.settings.Settings.{Settings}
 use Rattle.account.proofs.Verdict.{and-left, and-right}
 use Rattle.lines.specs.Call.{Fit}
-use Rattle.encoding.specs.Lists.{Lent}
+use Rattle.lines.specs.Open.{openingOf}
+use Rattle.lines.specs.declared.Opening.{Opening}
+use Rattle.encoding.specs.Lists.{Lent, isRan}
+use Rattle.replay.proofs.Chunks.{ran-is}
 use Rattle.tally.specs.Table.{mostStretches, empty}
 use Rattle.tally.specs.declared.account.Account.{Account}
 use Rattle.encoding.specs.declared.check.Outcome.the-variants.{Ran}
 use Rattle.examining.specs.Marks.{Sits, Marks}
-use Rattle.examining.specs.Stands.{Stands, Bounded}
+use Rattle.examining.specs.Stands.{Stands}
 use Rattle.examining.proofs.Standings.{opened-stands, marked-stands}
 use Rattle.examining.proofs.Fits.{bounded-ran}
 use Rattle.examining.specs.declared.sitting.Sitting.{Sitting}
 use Rattle.examining.specs.declared.sitting.Seated.{Seated}
-use Rattle.holding.specs.Held.{Holds, Kept}
+use Rattle.holding.specs.Held.{Opens, Goes, Holds, Kept}
 use Rattle.holding.specs.declared.Held.{Held}
 
 -- ---- opened
@@ -40,37 +42,40 @@ opened-holds r s opening samples t h size places =
           (subst (λ (y : Session). Stands (joined y samples) t empty) (sym (h .session)) x);
     }
 
+-- by what the line was read as
+pub opened-by : (r : Seated) (line : List ℕ) (o : Opening) → o ≡ openingOf line → Sits r (o .settings) (o .at)
+    → Opens (record { sitting = r .sitting; stands = eqb (r .refused) 0; refused = r .refused }) line
+opened-by r line o e h = record { sits = subst (λ (x : Opening). Sits r (x .settings) (x .at)) e h; stands = refl }
+
 -- ---- called
 
--- what a line was read as is within the bounds
-fit-bounded : (call : List ℕ) → Fit call → Bounded call
-fit-bounded call f =
-    record { kind = f .kind; address = f .address; port = f .port; octets = f .octets; waiting = f .waiting; places = f .places; taken = f .taken }
+module _ (h r : Held) (samples : List Float) (l : Lent) (answers₀ answers packets : List ℕ) (places samples′ : List Float) (t t′ : List ℕ)
+    (g : Goes h r samples l answers₀ answers packets places samples′ t t′) where
+  -- what a line was read as is within the bounds, and so is always run
+  pub goes-ran : Fit (l .calls) → r .sitting .outcome ≡ Ran
+  goes-ran f =
+      bounded-ran (r .sitting .outcome) _ l answers₀ answers packets places _ (g .marks .carries) (g .marks .one) (g .marks .lent)
+      (record { kind = f .kind; address = f .address; port = f .port; octets = f .octets; waiting = f .waiting; places = f .places; taken = f .taken })
 
-called-ran : (r : Sitting) (st : State) (l : Lent) (a : Account) (answers₀ answers packets : List ℕ) (places : List Float) (st′ : State) (t t′ : List ℕ)
-    → Marks r st l a answers₀ answers packets places st′ t t′ → Fit (l .calls) → r .outcome ≡ Ran
-called-ran r st l a answers₀ answers packets places st′ t t′ m f = bounded-ran (r .outcome) st l answers₀ answers packets places st′ (m .carries) (m .one) (m .lent) (fit-bounded (l .calls) f)
-
-called-holds : (h : Held) (r : Sitting) (samples samples′ : List Float) (l : Lent) (answers₀ answers packets : List ℕ) (places : List Float) (t t′ : List ℕ) (ran : Bool)
-    → Marks r (joined (h .sitting .session) samples) l (h .sitting .account) answers₀ answers packets places (joined (r .session) samples′) t t′ → Fit (l .calls) → Holds h samples t
-    → Holds (record { sitting = r; stands = h .stands && ran && r .fits; refused = 0 }) samples′ t′
-called-holds h r samples samples′ l answers₀ answers packets places t t′ ran m f x =
-    record {
-      account = λ e.
-          marked-stands r _ l (h .sitting .account) answers₀ answers packets places _ t t′ m (called-ran r _ l _ answers₀ answers packets places _ t t′ m f)
-          (and-right (h .stands && ran) (r .fits) e)
-          (x .account (and-left (h .stands) ran (and-left (h .stands && ran) (r .fits) e)));
-    }
+  pub goes-holds : Holds h samples t → Holds r samples′ t′
+  goes-holds x =
+      record {
+        account = λ e.
+            let b = sym (g .stands) ∙ e in
+            let c = and-left (h .stands && isRan (r .sitting .outcome)) (r .sitting .fits) b in
+            marked-stands (r .sitting) _ l (h .sitting .account) answers₀ answers packets places _ t t′ (g .marks)
+            (ran-is (r .sitting .outcome) (and-right (h .stands) (isRan (r .sitting .outcome)) c))
+            (and-right (h .stands && isRan (r .sitting .outcome)) (r .sitting .fits) b)
+            (x .account (and-left (h .stands) (isRan (r .sitting .outcome)) c));
+      }
 
 -- as the code puts them together
-pub called-as : (h : Held) (r : Sitting) (samples samples′ : List Float) (l : Lent) (answers₀ answers packets : List ℕ) (places : List Float) (t t′ : List ℕ) (ran stands : Bool)
-    → Marks r (joined (h .sitting .session) samples) l (h .sitting .account) answers₀ answers packets places (joined (r .session) samples′) t t′ → Fit (l .calls) → Holds h samples t
-    → stands ≡ h .stands && ran && r .fits → Holds (record { sitting = r; stands = stands; refused = 0 }) samples′ t′ × (r .outcome ≡ Ran)
-called-as h r samples samples′ l answers₀ answers packets places t t′ ran stands m f x e = (
-  subst (λ (b : Bool). Holds (record { sitting = r; stands = b; refused = 0 }) samples′ t′) (sym e)
-      (called-holds h r samples samples′ l answers₀ answers packets places t t′ ran m f x),
-  called-ran r _ l _ answers₀ answers packets places _ t t′ m f,
-)
+pub goes-as : (h : Held) (r : Sitting) (samples samples′ : List Float) (l : Lent) (answers₀ answers packets : List ℕ) (places : List Float) (t t′ : List ℕ) (ran stands : Bool)
+    → Marks r (joined (h .sitting .session) samples) l (h .sitting .account) answers₀ answers packets places (joined (r .session) samples′) t t′
+    → ran ≡ isRan (r .outcome) → stands ≡ h .stands && ran && r .fits
+    → Goes h (record { sitting = r; stands = stands; refused = 0 }) samples l answers₀ answers packets places samples′ t t′
+goes-as h r samples samples′ l answers₀ answers packets places t t′ ran stands m e f =
+    record { marks = m; stands = f ∙ ap (λ (b : Bool). h .stands && b && r .fits) e; refused = refl }
 
 pub not-first : (a b c : Bool) → not a ≡ true → false ≡ a && b && c
 not-first a b c h = rw (not-true a h) refl

@@ -1,9 +1,8 @@
 // The session that a program holds, with its account beside it: opened by a line of text, and called by what a line was read as.
 ghost use mathlib.Core.Path.{_≡_};
 ghost use mathlib.Core.Bool.{_&&_};
-ghost use Rattle.lines.specs.Call.{Fit};
-ghost use Rattle.holding.specs.Held.{Holds};
-ghost use Rattle.encoding.specs.declared.check.Outcome.the-variants.{Ran};
+ghost use Rattle.encoding.specs.Lists.{lentBy};
+ghost use Rattle.holding.specs.Held.{Opens, Goes, Holds};
 use encoding::check::is_ran;
 use examining::sitting::Sitting;
 use examining::sitting::mark;
@@ -39,6 +38,7 @@ fn all(a: bool, b: bool, c: bool) -> bool
 
 // By the settings of this line, whose first word is `open`.
 pub fn opened(line: &[u8], samples: &[f32; F32_PER_DATAGRAM], table: &[u64; TABLE]) -> Held
+    ensures { λ r. ⌜ Opens r (now (line .entry)) ⌝ }
     ensures { λ r. ⌜ Holds r (now (samples .entry)) (now (table .entry)) ⌝ }
 {
     let asked = read_open(line);
@@ -67,7 +67,7 @@ pub fn unused(samples: &[f32; F32_PER_DATAGRAM], table: &[u64; TABLE]) -> Held
     }
 }
 
-// After a call, which is always run: its numbers are what a line was read as.
+// After a call, run and noted. One whose numbers are what a line was read as (lines::read_call) is always run.
 pub fn called(
     h: Held,
     samples: &mut [f32; F32_PER_DATAGRAM],
@@ -79,10 +79,13 @@ pub fn called(
     answers: &mut [u64; 8],
     table: &mut [u64; TABLE],
 ) -> Held
-    requires { ⌜ Fit (now call) ⌝ }
-    requires { ⌜ Holds h (now samples) (now table) ⌝ }
-    ensures { λ r. ⌜ Holds r (now (samples .exit)) (now (table .exit)) ⌝ }
-    ensures { λ r. ⌜ r .sitting .outcome ≡ Ran ⌝ }
+    ensures { λ r. ⌜
+        Goes h r (now (samples .entry))
+        (lentBy (now (call .entry)) (now (octets .entry)) (now (numbers .entry)) (now (packets .entry))
+        (now (places .entry)))
+        (now (answers .entry)) (now (answers .exit)) (now (packets .exit)) (now (places .exit)) (now (samples .exit))
+        (now (table .entry)) (now (table .exit))
+        ⌝ }
 {
     let s = h.sitting.session;
     let a = h.sitting.account;
