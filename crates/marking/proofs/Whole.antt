@@ -3,7 +3,7 @@
 use Prim.Native.Nat.{ℕ, _+_, _%_, _<_, _^_}
 use mathlib.Core.Path.{_≡_, refl, sym, ap, subst, _∙_}
 use mathlib.Core.Bool.{Bool, true, false, cond}
-use mathlib.Core.List.{List, [], _∷_, map}
+use mathlib.Core.List.{List, [], _∷_, _++_, map}
 use mathlib.Core.Option.{Option, some, none}
 use lib.ListN.{length, length-append}
 use lib.Dec.{T}
@@ -20,7 +20,7 @@ use Rattle.model.specs.Session.{openedWith, session}
 use Rattle.model.specs.declared.settings.Settings.{Settings}
 use Rattle.account.specs.Whole.{countOf}
 use Rattle.account.specs.Book.{blank, limitIn}
-use Rattle.account.specs.Ledger.{Sent, callsOf, paired, handedOut, Entry, ledger, fitting, lateEntry, acceptedIn, samplesOf}
+use Rattle.account.specs.Ledger.{Sent, callsOf, paired, handedOut, Entry, ledger, fitting, lateEntry, acceptedIn, samplesOf, missingTold}
 use Rattle.account.specs.Demand3.{Lies, Agrees}
 use Rattle.account.proofs.Verdict.{Rules, rules}
 use Rattle.account.proofs.Stretches.{verdictOf, first-in, nextOf}
@@ -105,6 +105,41 @@ sums-samples (p ∷ ps) t h l =
     sums-samples ps (plusOf t (toldOf p)) (omega arith) (l .1)
     ∙ adds (t .samples) (length (samplesOf (p .first ∷ acceptedIn (p .others)))) _ _ (accepted-in p ps (l .0))
 
+-- ---- the sums of what is missing
+
+missing-append : (xs ys : List Entry) → missingTold (xs ++ ys) ≡ missingTold xs + missingTold ys
+missing-append [] ys = omega arith
+missing-append (x ∷ xs) ys = let h = missing-append xs ys in omega (arith, h)
+
+-- what is cut at 2^64 makes no difference to a sum that is
+uncut : (x y : ℕ) → (x % 2 ^ 64 + y) % 2 ^ 64 ≡ (x + y) % 2 ^ 64
+uncut x y = omega arith
+
+same : (x y : ℕ) → x ≡ y → x % 2 ^ 64 ≡ y % 2 ^ 64
+same x y e = ap (λ (n : ℕ). n % 2 ^ 64) e
+
+spread : (a b m r l v : ℕ) → v ≡ r + m + l → ((a + m % 2 ^ 64) % 2 ^ 64 + (b + r) % 2 ^ 64 + l) % 2 ^ 64 ≡ (a + b + v) % 2 ^ 64
+spread a b m r l v e =
+    let c : ℕ = m % 2 ^ 64 in
+    let d : ℕ = (b + r) % 2 ^ 64 in
+    same ((a + c) % 2 ^ 64 + d + l) ((a + c) % 2 ^ 64 + (d + l)) (omega arith)
+    ∙ uncut (a + c) (d + l)
+    ∙ same (a + c + (d + l)) (c + (a + (d + l))) (omega arith)
+    ∙ uncut m (a + (d + l))
+    ∙ same (m + (a + (d + l))) (d + (m + a + l)) (omega arith)
+    ∙ uncut (b + r) (m + a + l)
+    ∙ same (b + r + (m + a + l)) (a + b + v) (omega (arith, e))
+
+sums-missing : (ps : List Span) (t : Sums)
+    → ((sumsFrom t (map toldOf ps)) .missing + (sumsFrom t (map toldOf ps)) .restart) % 2 ^ 64 ≡ (t .missing + t .restart + missingTold (arrivalsIn ps)) % 2 ^ 64
+unfolding plusOf toldOf
+sums-missing [] t = omega arith
+sums-missing (p ∷ ps) t =
+    let v : missingTold (arrivalsIn (p ∷ ps)) ≡ p .first .says .missing + missingTold (p .others) + missingTold (arrivalsIn ps) =
+    missing-append (p .first ∷ p .others) (arrivalsIn ps) in
+    sums-missing ps (plusOf t (toldOf p))
+    ∙ spread (t .missing) (t .restart) (missingTold (p .others)) (p .first .says .missing) (missingTold (arrivalsIn ps)) _ v
+
 -- ---- the whole account
 
 module _ (samples : List Float) (size : length samples ≡ 476) (s : Settings) (now : ℕ) (calls : List Sent) (ok : T (accepts s)) where
@@ -133,6 +168,11 @@ module _ (samples : List Float) (size : length samples ≡ 476) (s : Settings) (
             ap (λ (l : List Stretch). (sumsOf l) .samples) told
             ∙ sums-samples (spansOf entries) noSums (omega arith) (accepted-firsts s entries chain)
             ∙ ap (λ (l : List Entry). (0 + length (samplesOf (acceptedIn l))) % 2 ^ 64) ((splits entries) .all)
+            ∙ omega arith;
+        missing =
+            ap (λ (l : List Stretch). ((sumsOf l) .missing + (sumsOf l) .restart) % 2 ^ 64) told
+            ∙ sums-missing (spansOf entries) noSums
+            ∙ ap (λ (l : List Entry). (0 + 0 + missingTold l) % 2 ^ 64) ((splits entries) .all)
             ∙ omega arith;
         handed = pairs;
         waits = waits;

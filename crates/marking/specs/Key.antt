@@ -7,7 +7,7 @@ use Rattle.base.specs.Each.{Each}
 use Rattle.model.specs.Host.{Reply}
 use Rattle.model.specs.Sample.{Sample}
 use Rattle.account.specs.Book.{blank}
-use Rattle.account.specs.Ledger.{Sent, callsOf, paired, handedOut, ledger, acceptedIn, samplesOf}
+use Rattle.account.specs.Ledger.{Sent, callsOf, paired, handedOut, ledger, acceptedIn, samplesOf, missingTold}
 use Rattle.account.specs.Demand3.{Lies}
 use Rattle.model.specs.declared.settings.Settings.{Settings}
 use Rattle.tally.specs.Stretch.{Even}
@@ -24,6 +24,10 @@ pub record Keyed (s : Settings) (now : ℕ) (calls : List Sent) (replies : List 
   pub stretches : stretchesTold (callsOf calls) replies ≡ map toldOf (spansOf (ledger s (blank now) (paired s calls replies)))
   -- the sum of their samples is that of all accepted arrivals
   pub samples : (sumsOf (stretchesTold (callsOf calls) replies)) .samples ≡ length (samplesOf (acceptedIn (ledger s (blank now) (paired s calls replies)))) % 2 ^ 64
+  -- what they tell missing, after their first arrivals and with them, is together all that was told
+  pub missing :
+      ((sumsOf (stretchesTold (callsOf calls) replies)) .missing + (sumsOf (stretchesTold (callsOf calls) replies)) .restart) % 2 ^ 64
+      ≡ missingTold (ledger s (blank now) (paired s calls replies)) % 2 ^ 64
   -- the pairs handed out, and those that wait; together they are all that were accepted
   pub handed : pairsIn (callsOf calls) replies ≡ length (handedOut (paired s calls replies))
   pub waits : left ≡ length waiting
