@@ -140,6 +140,10 @@ sums-missing (p ∷ ps) t =
     sums-missing ps (plusOf t (toldOf p))
     ∙ spread (t .missing) (t .restart) (missingTold (p .others)) (p .first .says .missing) (missingTold (arrivalsIn ps)) _ v
 
+calls-size : (calls : List Sent) → length (callsOf calls) ≡ length calls
+calls-size [] = refl
+calls-size (c ∷ calls) = let h = calls-size calls in omega (arith, h)
+
 -- ---- the whole account
 
 module _ (samples : List Float) (size : length samples ≡ 476) (s : Settings) (now : ℕ) (calls : List Sent) (ok : T (accepts s)) where
@@ -183,7 +187,7 @@ module _ (samples : List Float) (size : length samples ≡ 476) (s : Settings) (
             ∙ ap length (agrees .samples);
         even = λ few.
             subst (λ (l : List Stretch). Each Even l) (sym told)
-            (told-evens (length entries) (spansOf entries) (omega (arith, arrivals-few s (blank now) calls replies)) (spans-bounded s entries chain lies)
+            (told-evens (length entries) (spansOf entries) (omega (arith, arrivals-few s (blank now) calls replies, calls-size calls)) (spans-bounded s entries chain lies)
             (firsts (λ (x : Entry). countOf (x .number) ≡ x .count) entries (each-counts entries lies))
             (sums-each entries (agrees .sums)));
       }
