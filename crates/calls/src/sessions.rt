@@ -42,7 +42,7 @@ fn opened(
     holding::opened(&all[start..end], samples, table)
 }
 
-// After the line in hand, which asks for this. A call is run: its numbers are what the line was read as.
+// After the line in hand, which asks for this. A call is run: its numbers are such as a line is read as.
 pub(crate) fn after(
     h: Held,
     asks: u8,

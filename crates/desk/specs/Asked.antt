@@ -6,7 +6,7 @@ use Rattle.lines.specs.Call.{Fit}
 use Rattle.encoding.specs.declared.check.Outcome.{Outcome}
 use Rattle.encoding.specs.declared.check.Outcome.the-variants.{Ran}
 
--- a call: its numbers are what a line was read as
+-- a call: its numbers are within the bounds of what a line is read as
 pub record Asks (asks : ℕ) (call : List ℕ) : Type 0 where
   pub fit : asks ≡ 1 → Fit call
 

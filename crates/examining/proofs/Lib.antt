@@ -1,4 +1,3 @@
 -- That an account stands, call by call, and that one that stands is demand 3's.
 pub mod Marked
 pub mod Standings
-pub mod Fits

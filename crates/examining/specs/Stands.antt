@@ -1,8 +1,8 @@
 -- The account of a session is that of the calls which the session ran since it was opened. Definitions only.
-use Prim.Native.Nat.{ℕ, _*_, _%_, _≤_, _<_, _^_}
+use Prim.Native.Nat.{ℕ, _*_, _%_, _^_}
 use mathlib.Core.Path.{_≡_}
 use mathlib.Core.List.{List}
-use lib.ListN.{length, getD}
+use lib.ListN.{length}
 use lib.Dec.{T}
 use lib.Ieee.{Float}
 use Rattle.model.specs.Settings.{accepts}
@@ -35,13 +35,3 @@ pub record Stands (st : State) (t : List ℕ) (a : Account) : Type 0 where
 -- of a session, whatever is lent beside it now
 abbrev pub Standing : Session → List ℕ → Account → Type 0
 Standing s t a = (samples : List Float) × Stands (joined s samples) t a
-
--- the bounds within which a call is always run, in the rooms that are lent for it
-pub record Bounded (call : List ℕ) : Type 0 where
-  pub kind : getD call 0 0 ≤ 7
-  pub address : getD call 3 0 ≤ 2 ^ 32
-  pub port : getD call 4 0 < 65536
-  pub octets : getD call 5 0 ≤ 2048
-  pub waiting : getD call 6 0 ≤ 8193
-  pub places : getD call 7 0 ≤ 8192
-  pub taken : getD call 0 0 ≡ 3 → getD call 7 0 ≤ 1024

@@ -24,9 +24,9 @@ use Rattle.encoding.specs.declared.check.Outcome.the-variants.{Ran}
 use Rattle.examining.specs.Marks.{Sits, Marks}
 use Rattle.examining.specs.Stands.{Stands}
 use Rattle.examining.proofs.Standings.{opened-stands, marked-stands}
-use Rattle.examining.proofs.Fits.{bounded-ran}
 use Rattle.examining.specs.declared.sitting.Sitting.{Sitting}
 use Rattle.examining.specs.declared.sitting.Seated.{Seated}
+use Rattle.holding.proofs.Fits.{fit-ran}
 use Rattle.holding.specs.Held.{Opens, Goes, Holds, Kept}
 use Rattle.holding.specs.declared.Held.{Held}
 
@@ -51,11 +51,9 @@ opened-by r line o e h = record { sits = subst (λ (x : Opening). Sits r (x .set
 
 module _ (h r : Held) (samples : List Float) (l : Lent) (answers₀ answers packets : List ℕ) (places samples′ : List Float) (t t′ : List ℕ)
     (g : Goes h r samples l answers₀ answers packets places samples′ t t′) where
-  -- what a line was read as is within the bounds, and so is always run
+  -- what a line was read as is always run
   pub goes-ran : Fit (l .calls) → r .sitting .outcome ≡ Ran
-  goes-ran f =
-      bounded-ran (r .sitting .outcome) _ l answers₀ answers packets places _ (g .marks .carries) (g .marks .one) (g .marks .lent)
-      (record { kind = f .kind; address = f .address; port = f .port; octets = f .octets; waiting = f .waiting; places = f .places; taken = f .taken })
+  goes-ran f = fit-ran (r .sitting .outcome) _ l answers₀ answers packets places _ (g .marks .carries) (g .marks .one) (g .marks .lent) f
 
   pub goes-holds : Holds h samples t → Holds r samples′ t′
   goes-holds x =

@@ -1,2 +1,3 @@
 -- What holds of the session that a program holds.
+pub mod Fits
 pub mod Keeps

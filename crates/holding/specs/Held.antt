@@ -8,8 +8,6 @@ use lib.Ieee.{Float}
 use Rattle.model.specs.Gives.{joined}
 use Rattle.lines.specs.Open.{openingOf}
 use Rattle.encoding.specs.Lists.{Lent, isRan}
-use Rattle.encoding.specs.declared.check.Outcome.{Outcome}
-use Rattle.encoding.specs.declared.check.Outcome.the-variants.{Ran}
 use Rattle.examining.specs.Marks.{Sits, Marks}
 use Rattle.examining.specs.Stands.{Stands, Standing}
 use Rattle.holding.specs.declared.Held.{Held}

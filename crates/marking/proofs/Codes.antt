@@ -4,7 +4,7 @@ use mathlib.Core.Path.{_≡_, refl, sym, ap, _∙_}
 use mathlib.Core.Logic.{_≢_}
 use mathlib.Core.List.{List, [], _∷_}
 use native.Mathlib.Omega.{arith}
-use borrow.Author.Tests.{le-leb, lt-leb, eq-eqb, ne-eqb}
+use borrow.Author.Tests.{eq-eqb, ne-eqb}
 use Rattle.base.specs.Pick.{pick}
 use Rattle.base.proofs.Picks.{pick-t, pick-f}
 use Rattle.model.specs.Answer.{Answer}
@@ -18,65 +18,59 @@ use Rattle.tally.specs.declared.record.Record.{Record}
 use Rattle.tally.specs.declared.account.Account.{Account}
 use Rattle.tally.specs.declared.account.Noted.{Noted}
 use Rattle.marking.specs.Records.{heardAs}
-use Rattle.marking.specs.Noting.{saidOf, notedBy, tableAfter, handedBy, heardIn, noteOf, tableOf}
+use Rattle.marking.specs.Noting.{saidOf, SaidBy, notedBy, tableAfter, handedBy, heardIn, noteOf, tableOf}
 use Rattle.marking.specs.declared.note.Said.{Said}
 use Rattle.marking.specs.declared.note.Said.the-variants as Said
 
 -- ---- what is said
 
-said-small : (c : ℕ) → c < 11 → saidOf c ≡ Said.Nothing
-unfolding saidOf pick
-said-small c h =
-    simp (lt-leb 19 c (omega arith), ne-eqb c 11 (λ e. omega arith), ne-eqb c 12 (λ e. omega arith), ne-eqb c 13 (λ e. omega arith))
+pub said-gap : (c : ℕ) → 19 ≤ c → SaidBy c (Said.Event Gap)
+said-gap c h =
+    record {
+      says = λ v.
+          answer-cases (λ a. Said.Event Gap ≡ saidOf a) c v (λ e. absurd (omega arith)) (λ l w. absurd (omega arith)) (λ e. absurd (omega arith)) (λ e. absurd (omega arith))
+          (λ e. absurd (omega arith)) (λ e. absurd (omega arith)) (λ e. absurd (omega arith)) (λ e. absurd (omega arith)) (λ e. absurd (omega arith)) (λ e. absurd (omega arith))
+          (λ l. refl);
+    }
 
-pub said-gap : (c : ℕ) → 19 ≤ c → Said.Event Gap ≡ saidOf c
-unfolding saidOf
-said-gap c h = sym (pick-t _ _ _ (le-leb 19 c h))
+pub said-in-order : (c : ℕ) → c ≡ 11 → SaidBy c (Said.Event InOrder)
+unfolding pick
+said-in-order c e = record { says = λ v. rw e refl }
 
-pub said-in-order : (c : ℕ) → c ≡ 11 → Said.Event InOrder ≡ saidOf c
-unfolding saidOf pick
-said-in-order c e = rw e refl
+pub said-stale : (c : ℕ) → c ≡ 12 → SaidBy c (Said.Event Stale)
+unfolding pick
+said-stale c e = record { says = λ v. rw e refl }
 
-pub said-stale : (c : ℕ) → c ≡ 12 → Said.Event Stale ≡ saidOf c
-unfolding saidOf pick
-said-stale c e = rw e refl
+pub said-restart : (c : ℕ) → c ≡ 13 → SaidBy c (Said.Event Restart)
+unfolding pick
+said-restart c e = record { says = λ v. rw e refl }
 
-pub said-restart : (c : ℕ) → c ≡ 13 → Said.Event Restart ≡ saidOf c
-unfolding saidOf pick
-said-restart c e = rw e refl
-
-pub said-rest : (c : ℕ) → c < 19 → c ≢ 11 → c ≢ 12 → c ≢ 13 → Said.Nothing ≡ saidOf c
-unfolding saidOf pick
-said-rest c h a b d = simp (lt-leb 19 c h, ne-eqb c 11 a, ne-eqb c 12 b, ne-eqb c 13 d)
+pub said-rest : (c : ℕ) → c < 19 → c ≢ 11 → c ≢ 12 → c ≢ 13 → SaidBy c Said.Nothing
+said-rest c h a b d =
+    record {
+      says = λ v.
+          answer-cases (λ x. Said.Nothing ≡ saidOf x) c v (λ e. refl) (λ l w. refl) (λ e. absurd (a e)) (λ e. absurd (b e)) (λ e. absurd (d e)) (λ e. refl) (λ e. refl) (λ e. refl)
+          (λ e. refl) (λ e. refl) (λ l. absurd (omega arith));
+    }
 
 -- the record of an arrival that is told this
 abbrev pub recordSaid : ℕ → ℕ → ℕ → Said → List Record
 recordSaid reading number value Said.Nothing = []
 recordSaid reading number value (Said.Event e) = record { reading = reading; number = number; event = e; missing = value } ∷ []
 
-pub heard-said : (reading number c v : ℕ) → heardAs reading number (answerOf c v) ≡ recordSaid reading number v (saidOf c)
-unfolding saidOf pick
+heard-said : (reading number c v : ℕ) → heardAs reading number (answerOf c v) ≡ recordSaid reading number v (saidOf (answerOf c v))
 heard-said reading number c v =
-    answer-cases (λ a. heardAs reading number a ≡ recordSaid reading number v (saidOf c)) c v (λ e. rw e refl)
-    (λ h w. rw (said-small c h) refl)
-    (λ e. rw e refl)
-    (λ e. rw e refl)
-    (λ e. rw e refl)
-    (λ e. rw e refl)
-    (λ e. rw e refl)
-    (λ e. rw e refl)
-    (λ e. rw e refl)
-    (λ e. rw e refl)
-    (λ h. rw (← said-gap c h) refl)
+    answer-cases (λ a. heardAs reading number a ≡ recordSaid reading number v (saidOf a)) c v (λ e. refl) (λ h w. refl) (λ e. refl) (λ e. refl) (λ e. refl) (λ e. refl) (λ e. refl)
+    (λ e. refl) (λ e. refl) (λ e. refl) (λ h. refl)
 
 -- ---- what is made of it
 
 module _ (t : List ℕ) (a : Account) (reading number c v : ℕ) where
-  pub nothing-said : Said.Nothing ≡ saidOf c → (r : Noted) → r ≡ fitting a
+  pub nothing-said : Said.Nothing ≡ saidOf (answerOf c v) → (r : Noted) → r ≡ fitting a
       → (r ≡ notedBy a (heardAs reading number (answerOf c v))) × (t ≡ tableAfter t a (heardAs reading number (answerOf c v)))
   nothing-said e r h = let z = heard-said reading number c v ∙ ap (recordSaid reading number v) (sym e) in (rw z h, rw z refl)
 
-  pub event-said : (w : Event) → Said.Event w ≡ saidOf c → (r : Noted) (t′ : List ℕ)
+  pub event-said : (w : Event) → Said.Event w ≡ saidOf (answerOf c v) → (r : Noted) (t′ : List ℕ)
       → (r ≡ notedBy a (recordSaid reading number v (Said.Event w))) × (t′ ≡ tableAfter t a (recordSaid reading number v (Said.Event w)))
       → (r ≡ notedBy a (heardAs reading number (answerOf c v))) × (t′ ≡ tableAfter t a (heardAs reading number (answerOf c v)))
   event-said w e r t′ h = let z = heard-said reading number c v ∙ ap (recordSaid reading number v) (sym e) in (rw z (h .0), rw z (h .1))

@@ -3,7 +3,7 @@ use Prim.Native.Nat.{ℕ, _+_, _-_, _*_, _%_, _≤_, _<_, _^_}
 use mathlib.Core.Path.{_≡_, refl, sym, ap, subst, _∙_}
 use mathlib.Core.Bool.{Bool, true, false, cond}
 use mathlib.Core.List.{List, [], _∷_, _++_, map}
-use mathlib.Core.Option.{Option, some, none}
+use mathlib.Core.Option.{some, none}
 use lib.ListN.{length}
 use lib.IntN.{ℤ, pos, _+ℤ_, _-ℤ_, _*ℤ_, +ℤ-idr}
 use native.Mathlib.Omega.{arith}
@@ -12,17 +12,17 @@ use Rattle.sequence.specs.declared.SeqEvent.{SeqEvent}
 use Rattle.sequence.specs.declared.SeqEvent.the-variants.{InOrder, Gap, Stale, Restart}
 use Rattle.model.specs.Host.{Reply}
 use Rattle.model.specs.declared.settings.Settings.{Settings}
-use Rattle.account.specs.Whole.{countOf, ahead, Near}
+use Rattle.account.specs.Whole.{countOf, ahead}
 use Rattle.account.specs.Book.{News, Quiet, Began, Took, Came, Book, noted}
 use Rattle.account.specs.Ledger.{Sent, Line, paired, Entry, entry, ledger, fitting, lateEntry, acceptedIn, samplesOf, missingTold, highest}
-use Rattle.account.specs.Demand3.{NearIn, Lies, Sums}
+use Rattle.account.specs.Demand3.{Lies, Sums}
 use Rattle.account.proofs.Numbers.{count-small}
 use Rattle.account.proofs.Verdict.{Says}
 use Rattle.account.proofs.Stretches.{past-e, distance-of, verdictOf, says-at, first-in}
 use Rattle.tally.specs.Stretch.{Even}
-use Rattle.marking.specs.Spans.{Span, isRestart, Cut, cut, spansOf, toldOf}
+use Rattle.marking.specs.Spans.{Span, isRestart, Cut, broken, unbroken, cut, spansOf, toldOf}
 use Rattle.marking.proofs.Onward.{highest-on, rises-by}
-use Rattle.marking.proofs.Spans.{Fact, Chain, after-accepted, after-stale}
+use Rattle.marking.proofs.Spans.{near-above, Fact, Chain, after-accepted, after-stale}
 
 -- ---- how far a stretch can rise
 
@@ -50,14 +50,8 @@ module _ (s : Settings) where
     abbrev Bound : Type 0
     Bound = Bounds (n + 1) h (cut (x ∷ xs))
 
-    abbrev broken : Cut
-    broken = record { front = []; spans = record { first = x; others = (cut xs) .front } ∷ (cut xs) .spans }
-
-    abbrev going : Cut
-    going = record { front = x ∷ (cut xs) .front; spans = (cut xs) .spans }
-
-    by-test : (b : Bool) → isRestart (x .says .event) ≡ b → Bounds (n + 1) h (cond b broken going) → Bound
-    by-test b e r = subst (λ (t : Bool). Bounds (n + 1) h (cond t broken going)) (sym e) r
+    by-test : (b : Bool) → isRestart (x .says .event) ≡ b → Bounds (n + 1) h (cond b (broken x (cut xs)) (unbroken x (cut xs))) → Bound
+    by-test b e r = subst (λ (t : Bool). Bounds (n + 1) h (cond t (broken x (cut xs)) (unbroken x (cut xs)))) (sym e) r
 
     risen : (k : ℕ) → x .number ≡ h +ℤ pos (k + 1) → k < 2 ^ 31 → lateEntry x ≡ false → Within n (x .number) (acceptedIn ((cut xs) .front)) → Within (n + 1) h (acceptedIn (x ∷ (cut xs) .front))
     risen k up near l w = rw l (let e = rises-by h (x .number) k (acceptedIn ((cut xs) .front)) up in omega (arith, e, near, w))
@@ -70,11 +64,9 @@ module _ (s : Settings) where
         (record { front = risen 0 (past-e h (x .number) 0 (y .0)) (omega arith) (y .2) (r .front); spans = each-wider n (n + 1) ((cut xs) .spans) (omega arith) (r .spans) })
     one (Gap k) ev e lies f y a b =
         let r = a (y .2) in
-        let near : Near (h +ℤ pos 1) (x .number) = subst (λ (o : Option ℤ). NearIn o (x .number)) e (lies .1) in
-        let d = ap ahead (y .0 .0) in
         by-test false (ap isRestart ev)
         (record {
-          front = risen k (past-e h (x .number) k (y .0 .0)) (omega (arith, near .high, d)) (y .2) (r .front);
+          front = risen k (past-e h (x .number) k (y .0 .0)) (near-above h x k e lies (y .0 .0)) (y .2) (r .front);
           spans = each-wider n (n + 1) ((cut xs) .spans) (omega arith) (r .spans);
         })
     one Stale ev e lies f y a b =

@@ -50,6 +50,10 @@ rises-by h n k l e =
     let f : highest n l ≡ h +ℤ pos (k + 1 + j .0) = j .1 ∙ ap (λ (z : ℤ). z +ℤ pos (j .0)) e ∙ +ℤ-assoc h (pos (k + 1)) (pos (j .0)) in
     ap (λ (z : ℤ). ahead (highest z l -ℤ h)) (is-higher h n k e) ∙ ap ahead (distance-of h (highest n l) (k + 1 + j .0) f) ∙ ap (λ (i : ℕ). k + 1 + i) (sym a)
 
+-- a datagram more brings 238 samples
+pub samples-more : (x : Entry) (l : List Entry) → length (samplesOf (x ∷ l)) ≡ 238 + length (samplesOf l)
+samples-more x l = length-append (samplesIn x) (samplesOf l) ∙ ap (λ (i : ℕ). i + length (samplesOf l)) (datagram-samples (x .incoming .octets))
+
 -- ---- a stretch that is told on
 
 -- s, whose highest number is h, after these arrivals
@@ -120,8 +124,7 @@ module _ (s : Stretch) (h : ℤ) (x : Entry) (k : ℕ) (c : Counts s h) (up : x 
   pub onward-more : (xs : List Entry) → lateEntry x ≡ false → onward (moreOf s (recordIn x)) (x .number) xs ≡ onward s h (x ∷ xs)
   unfolding moreOf
   onward-more xs l =
-      let n : length (samplesOf (x ∷ acceptedIn xs)) ≡ 238 + length (samplesOf (acceptedIn xs)) =
-      length-append (samplesIn x) (samplesOf (acceptedIn xs)) ∙ ap (λ (i : ℕ). i + length (samplesOf (acceptedIn xs))) (datagram-samples (x .incoming .octets)) in
+      let n = samples-more x (acceptedIn xs) in
       rw l
       (stretch-is (s .at) _ (s .first) (s .restart) _ _ _ _ _ _ _
       (adds-high (s .highest) _ _ high-is ∙ ap (λ (i : ℕ). (s .highest + i) % 2 ^ 64) (sym (rises-by h (x .number) k (acceptedIn xs) up)))

@@ -1,10 +1,10 @@
 -- The stretches that are told are demand 3's, where every answer is the book's. Assumes nothing.
-use Prim.Native.Nat.{ℕ, _+_, _*_, _%_, _<_, _^_}
+use Prim.Native.Nat.{ℕ, _*_, _%_, _<_, _^_}
 use mathlib.Core.Path.{_≡_, refl, sym, ap, subst, _∙_}
 use mathlib.Core.Bool.{Bool, true, false, cond}
 use mathlib.Core.List.{List, [], _∷_, _++_, map}
 use mathlib.Core.Option.{Option, some, none}
-use lib.ListN.{length, length-append}
+use lib.ListN.{length}
 use lib.IntN.{ℤ, pos, negsuc, _+ℤ_, _-ℤ_}
 use native.Mathlib.Nat.{zero-add}
 use native.Mathlib.Omega.{arith}
@@ -13,11 +13,10 @@ use Rattle.base.specs.Each.{Each}
 use Rattle.sequence.specs.declared.SeqEvent.{SeqEvent}
 use Rattle.sequence.specs.declared.SeqEvent.the-variants.{InOrder, Gap, Stale, Restart}
 use Rattle.model.specs.Answer.{Tells}
-use Rattle.model.proofs.Pairs.{datagram-samples}
 use Rattle.model.specs.declared.settings.Settings.{Settings}
 use Rattle.account.specs.Whole.{countOf, ahead, behind, Near}
 use Rattle.account.specs.Book.{News, Quiet, Began, Took, Came, Book, missingIn, missing, noted}
-use Rattle.account.specs.Ledger.{Line, Entry, entry, ledger, fitting, lateEntry, acceptedIn, samplesIn, samplesOf, missingTold, highest}
+use Rattle.account.specs.Ledger.{Line, Entry, entry, ledger, fitting, lateEntry, acceptedIn, samplesOf, missingTold, highest}
 use Rattle.account.specs.Demand3.{NearIn, Lies}
 use Rattle.account.specs.Exact.{Exact, AllLines}
 use Rattle.account.proofs.Numbers.{count-small}
@@ -29,9 +28,9 @@ use Rattle.tally.proofs.Notes.{noted-behind}
 use Rattle.tally.specs.declared.record.Record.{Record}
 use Rattle.tally.specs.declared.stretch.Stretch.{Stretch}
 use Rattle.marking.specs.Records.{eventOf}
-use Rattle.marking.specs.Spans.{isRestart, Cut, cut, spansOf, toldOf}
+use Rattle.marking.specs.Spans.{isRestart, Cut, broken, unbroken, cut, spansOf, toldOf}
 use Rattle.marking.proofs.Streams.{eventIn, recordIn}
-use Rattle.marking.proofs.Onward.{onward, Counts, onward-none, onward-stale, counts-on, onward-more}
+use Rattle.marking.proofs.Onward.{samples-more, onward, Counts, onward-none, onward-stale, counts-on, onward-more}
 
 cond-true : (b : Bool) (p q : Cut) → b ≡ true → cond b p q ≡ p
 cond-true true p q h = refl
@@ -56,8 +55,7 @@ stretch-as s t a b ea eb e = e ∙ rw (ea, eb) refl
 pub told-first : (x : Entry) (xs : List Entry) → toldOf (record { first = x; others = xs }) ≡ onward (firstOf (recordIn x)) (x .number) xs
 unfolding toldOf firstOf
 told-first x xs =
-    let n : length (samplesOf (x ∷ acceptedIn xs)) ≡ 238 + length (samplesOf (acceptedIn xs)) =
-    length-append (samplesIn x) (samplesOf (acceptedIn xs)) ∙ ap (λ (i : ℕ). i + length (samplesOf (acceptedIn xs))) (datagram-samples (x .incoming .octets)) in
+    let n = samples-more x (acceptedIn xs) in
     stretch-as _ _ (length (samplesOf (x ∷ acceptedIn xs)) % 2 ^ 64) (missingTold xs % 2 ^ 64) (ap (λ (i : ℕ). i % 2 ^ 64) n) (ap (λ (i : ℕ). i % 2 ^ 64) (sym (zero-add (missingTold xs)))) refl
 
 -- a stale one misses nothing
@@ -67,6 +65,13 @@ stale-misses o f r e n eo ef below = rw (eo, ef) (nothing-above (n -ℤ e) below
     nothing-above : (d : ℤ) → 0 < behind d → perDatagram * ahead d ≡ 0
     nothing-above (pos d) h = absurd (omega arith)
     nothing-above (negsuc d) h = omega arith
+
+-- one that lies as the demand says is less than 2^31 above e
+pub near-above : (h : ℤ) (x : Entry) (k : ℕ) → x .book .expected ≡ some (h +ℤ pos 1) → Lies x → x .number -ℤ (h +ℤ pos 1) ≡ pos k → k < 2 ^ 31
+near-above h x k e lies d =
+    let n : Near (h +ℤ pos 1) (x .number) = subst (λ (o : Option ℤ). NearIn o (x .number)) e (lies .1) in
+    let z = ap ahead d in
+    omega (arith, n .high, z)
 
 module _ (s : Settings) where
   -- ---- arrivals that are told as the book says, each after the one before
@@ -100,20 +105,11 @@ module _ (s : Settings) where
     abbrev rest : List Record
     rest = map recordIn xs
 
-    abbrev broken : Cut
-    broken = record { front = []; spans = record { first = x; others = (cut xs) .front } ∷ (cut xs) .spans }
-
-    abbrev going : Cut
-    going = record { front = x ∷ (cut xs) .front; spans = (cut xs) .spans }
-
     abbrev shown : Cut → List Stretch
     shown u = onward st h (u .front) ∷ map toldOf (u .spans)
 
     goes : (v : SeqEvent) → x .says .event ≡ some v → notedAll (st ∷ []) (map recordIn (x ∷ xs)) ≡ notedAll (after (eventOf v) st (recordIn x)) rest
     goes v ev = ap (λ (o : Option SeqEvent). notedAll (after (eventIn o) st (recordIn x)) rest) ev
-
-    near-is : (k : ℕ) → x .number -ℤ (h +ℤ pos 1) ≡ pos k → k < 2 ^ 31
-    near-is k d = let n : Near (h +ℤ pos 1) (x .number) = subst (λ (o : Option ℤ). NearIn o (x .number)) e (lies .1) in let z = ap ahead d in omega (arith, n .high, z)
 
     -- in order, or a gap
     accepted : (v : SeqEvent) (k : ℕ) → x .says .event ≡ some v → isRestart (some v) ≡ false → after (eventOf v) st (recordIn x) ≡ moreOf st (recordIn x) ∷ []
@@ -121,12 +117,12 @@ module _ (s : Settings) where
         → ((t : Stretch) → Counts t (x .number) → lateEntry x ≡ false → Claim t (x .number) xs) → Claim st h (x ∷ xs)
     accepted v k ev nr ar d l on =
         let up = past-e h (x .number) k d in
-        let near = near-is k d in
+        let near = near-above h x k e lies d in
         goes v ev
         ∙ ap (λ (l : List Stretch). notedAll l rest) ar
         ∙ on (moreOf st (recordIn x)) (counts-on st h x k c up near (lies .0)) l
         ∙ ap (λ (t : Stretch). t ∷ map toldOf ((cut xs) .spans)) (onward-more st h x k c up near (lies .0) ((cut xs) .front) l)
-        ∙ ap shown (sym (cond-false (isRestart (x .says .event)) broken going (ap isRestart ev ∙ nr)))
+        ∙ ap shown (sym (cond-false (isRestart (x .says .event)) (broken x (cut xs)) (unbroken x (cut xs)) (ap isRestart ev ∙ nr)))
 
     one : (v : SeqEvent) → x .says .event ≡ some v → Says (x .number -ℤ (h +ℤ pos 1)) v (fitting s x) (lateEntry x)
         → ((t : Stretch) → Counts t (x .number) → lateEntry x ≡ false → Claim t (x .number) xs) → (lateEntry x ≡ true → Claim st h xs) → Claim st h (x ∷ xs)
@@ -137,14 +133,14 @@ module _ (s : Settings) where
         goes Stale ev
         ∙ same (y .2)
         ∙ ap (λ (t : Stretch). t ∷ map toldOf ((cut xs) .spans)) (sym (onward-stale st h x ((cut xs) .front) (y .2) m))
-        ∙ ap shown (sym (cond-false (isRestart (x .says .event)) broken going (ap isRestart ev)))
+        ∙ ap shown (sym (cond-false (isRestart (x .says .event)) (broken x (cut xs)) (unbroken x (cut xs)) (ap isRestart ev)))
     one Restart ev y on same =
         goes Restart ev
         ∙ noted-behind st (firstOf (recordIn x)) [] rest
         ∙ ap (λ (l : List Stretch). st ∷ l) (on (firstOf (recordIn x)) (counts-first x (lies .0)) (y .2))
         ∙ ap (λ (t : Stretch). t ∷ onward (firstOf (recordIn x)) (x .number) ((cut xs) .front) ∷ map toldOf ((cut xs) .spans)) (sym (onward-none st h c))
         ∙ ap (λ (t : Stretch). onward st h [] ∷ t ∷ map toldOf ((cut xs) .spans)) (sym (told-first x ((cut xs) .front)))
-        ∙ ap shown (sym (cond-true (isRestart (x .says .event)) broken going (ap isRestart ev)))
+        ∙ ap shown (sym (cond-true (isRestart (x .says .event)) (broken x (cut xs)) (unbroken x (cut xs)) (ap isRestart ev)))
 
   pub after-accepted : (x : Entry) (xs : List Entry) → lateEntry x ≡ false → Chain (nextOf s x) xs → Chain (some (x .number +ℤ pos 1)) xs
   after-accepted x xs l k = subst (λ (b : Bool). Chain (cond b (x .book .expected) (some (x .number +ℤ pos 1))) xs) l k

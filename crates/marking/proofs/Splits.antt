@@ -11,7 +11,7 @@ use Rattle.sequence.specs.declared.SeqEvent.{SeqEvent}
 use Rattle.sequence.specs.declared.SeqEvent.the-variants.{InOrder, Gap, Stale, Restart}
 use Rattle.account.specs.Ledger.{Entry}
 use Rattle.account.specs.Demand3.{Stretch, Sums}
-use Rattle.marking.specs.Spans.{Span, isRestart, Cut, cut, spansOf, arrivalsIn, Unbroken, Begun, Splits}
+use Rattle.marking.specs.Spans.{Span, isRestart, Cut, broken, unbroken, cut, spansOf, arrivalsIn, Steady, Begun, Splits}
 
 restarted : (o : Option SeqEvent) → isRestart o ≡ true → o ≡ some Restart
 restarted none h = let z : _≡_ {A = ℕ} 0 1 = cc in absurd (omega arith)
@@ -27,35 +27,35 @@ going o h e = let z : _≡_ {A = ℕ} 0 1 = let k : isRestart (some Restart) ≡
 pub record Right (u : Cut) (xs : List Entry) : Type 0 where
   pub all : u .front ++ arrivalsIn (u .spans) ≡ xs
   pub begun : Each (λ q. q .first .says .event ≡ some Restart) (u .spans)
-  pub unbroken : Each Unbroken (u .spans)
+  pub steady : Each Steady (u .spans)
   pub goes : Each (λ y. y .says .event ≢ some Restart) (u .front)
 
 step : (x : Entry) (xs : List Entry) (u : Cut) (b : Bool) → isRestart (x .says .event) ≡ b → Right u xs
-    → Right (cond b (record { front = []; spans = record { first = x; others = u .front } ∷ u .spans }) (record { front = x ∷ u .front; spans = u .spans })) (x ∷ xs)
+    → Right (cond b (broken x u) (unbroken x u)) (x ∷ xs)
 step x xs u true h r =
     record {
       all = ap (λ (l : List Entry). x ∷ l) (r .all);
       begun = (restarted (x .says .event) h, r .begun);
-      unbroken = (r .goes, r .unbroken);
+      steady = (r .goes, r .steady);
       goes = tt;
     }
 step x xs u false h r =
-    record { all = ap (λ (l : List Entry). x ∷ l) (r .all); begun = r .begun; unbroken = r .unbroken; goes = (going (x .says .event) h, r .goes) }
+    record { all = ap (λ (l : List Entry). x ∷ l) (r .all); begun = r .begun; steady = r .steady; goes = (going (x .says .event) h, r .goes) }
 
 pub cut-right : (xs : List Entry) → Right (cut xs) xs
-cut-right [] = record { all = refl; begun = tt; unbroken = tt; goes = tt }
+cut-right [] = record { all = refl; begun = tt; steady = tt; goes = tt }
 cut-right (x ∷ xs) = step x xs (cut xs) (isRestart (x .says .event)) refl (cut-right xs)
 
 pub splits : (xs : List Entry) → Splits xs (spansOf xs)
-splits [] = record { all = refl; begun = tt; unbroken = tt }
+splits [] = record { all = refl; begun = tt; steady = tt }
 splits (x ∷ xs) =
     let r = cut-right xs in
-    record { all = ap (λ (l : List Entry). x ∷ l) (r .all); begun = r .begun; unbroken = (r .goes, r .unbroken) }
+    record { all = ap (λ (l : List Entry). x ∷ l) (r .all); begun = r .begun; steady = (r .goes, r .steady) }
 
 -- ---- each is one of demand 3's
 
 module _ (entries : List Entry) (sums : (before : List Entry) (x : Entry) (xs past : List Entry) → Stretch entries before x xs past → Sums x xs) where
-  later : (before : List Entry) (ps : List Span) → entries ≡ before ++ arrivalsIn ps → Each (λ q. q .first .says .event ≡ some Restart) ps → Each Unbroken ps
+  later : (before : List Entry) (ps : List Span) → entries ≡ before ++ arrivalsIn ps → Each (λ q. q .first .says .event ≡ some Restart) ps → Each Steady ps
       → Each (λ q. Sums (q .first) (q .others)) ps
   later before [] e b u = tt
   later before (p ∷ ps) e b u = (
@@ -63,10 +63,10 @@ module _ (entries : List Entry) (sums : (before : List Entry) (x : Entry) (xs pa
     later (before ++ (p .first ∷ p .others)) ps (e ∙ sym (append-assoc before (p .first ∷ p .others) (arrivalsIn ps))) (b .1) (u .1),
   )
 
-  from-first : (ps : List Span) → entries ≡ arrivalsIn ps → Begun ps → Each Unbroken ps → Each (λ q. Sums (q .first) (q .others)) ps
+  from-first : (ps : List Span) → entries ≡ arrivalsIn ps → Begun ps → Each Steady ps → Each (λ q. Sums (q .first) (q .others)) ps
   from-first [] e b u = tt
   from-first (p ∷ ps) e b u =
       (sums [] (p .first) (p .others) (arrivalsIn ps) (e, inl refl, u .0), later (p .first ∷ p .others) ps e b (u .1))
 
   pub sums-each : Each (λ q. Sums (q .first) (q .others)) (spansOf entries)
-  sums-each = let r = splits entries in from-first (spansOf entries) (sym (r .all)) (r .begun) (r .unbroken)
+  sums-each = let r = splits entries in from-first (spansOf entries) (sym (r .all)) (r .begun) (r .steady)

@@ -31,7 +31,7 @@ use Rattle.tally.specs.Stretches.{notedAll, noSums, sumsFrom, sumsOf}
 use Rattle.tally.specs.declared.stretch.Stretch.{Stretch}
 use Rattle.tally.specs.declared.stretch.Sums.{Sums}
 use Rattle.marking.specs.Records.{stretchesTold}
-use Rattle.marking.specs.Spans.{Span, isRestart, Cut, cut, spansOf, arrivalsIn, toldOf}
+use Rattle.marking.specs.Spans.{Span, isRestart, Cut, broken, unbroken, cut, spansOf, arrivalsIn, toldOf}
 use Rattle.marking.specs.Key.{Key}
 use Rattle.marking.proofs.Streams.{records-are}
 use Rattle.marking.proofs.Spans.{Fact, Chain, chained, stretches-are}
@@ -47,7 +47,7 @@ module _ (P : Entry → Type 0) where
   cut-firsts (x ∷ xs) h = go (isRestart (x .says .event)) (cut-firsts xs (h .1))
     where
       go : (b : Bool) → Each (λ (p : Span). P (p .first)) ((cut xs) .spans)
-          → Each (λ (p : Span). P (p .first)) ((cond {A = Cut} b (record { front = []; spans = record { first = x; others = (cut xs) .front } ∷ (cut xs) .spans }) (record { front = x ∷ (cut xs) .front; spans = (cut xs) .spans })) .spans)
+          → Each (λ (p : Span). P (p .first)) ((cond {A = Cut} b (broken x (cut xs)) (unbroken x (cut xs))) .spans)
       go true r = (h .0, r)
       go false r = r
 

@@ -1,27 +1,32 @@
 -- What the code makes of a call and its answer, as numbers in lent buffers. Definitions only.
 use Prim.Native.Nat.{ℕ}
+use mathlib.Core.Path.{_≡_}
 use mathlib.Core.List.{List, [], _∷_}
-use lib.Dec.{leb, eqb}
+use lib.Dec.{eqb}
 use Rattle.base.specs.Pick.{pick}
 use Rattle.model.specs.Answer.{Answer, refused, done, heard, took, slot, flag}
 use Rattle.encoding.specs.Lists.{part}
 use Rattle.encoding.specs.declared.words.Words.{Words}
 use Rattle.tally.specs.Table.{fitting, noteIn, tableIn, handing}
-use Rattle.tally.specs.declared.record.Event.the-variants.{InOrder, Gap, Stale, Restart}
 use Rattle.tally.specs.declared.record.Record.{Record}
 use Rattle.tally.specs.declared.account.Account.{Account}
 use Rattle.tally.specs.declared.account.Noted.{Noted}
-use Rattle.marking.specs.Records.{numberIn, heardAs}
+use Rattle.answers.specs.Code.{answerOf}
+use Rattle.marking.specs.Records.{eventOf, numberIn, heardAs}
 use Rattle.marking.specs.declared.note.Said.{Said}
 use Rattle.marking.specs.declared.note.Said.the-variants as Said
 
--- by an answer's code (answers, Code)
-unfoldable pub saidOf : ℕ → Said
-saidOf code =
-    pick (leb 19 code) (Said.Event Gap)
-    (pick (eqb code 11) (Said.Event InOrder)
-    (pick (eqb code 12) (Said.Event Stale)
-    (pick (eqb code 13) (Said.Event Restart) Said.Nothing)))
+abbrev pub saidOf : Answer → Said
+saidOf (heard e missing) = Said.Event (eventOf e)
+saidOf (refused k) = Said.Nothing
+saidOf (done word) = Said.Nothing
+saidOf (took n) = Said.Nothing
+saidOf (slot held) = Said.Nothing
+saidOf (flag stalled) = Said.Nothing
+
+-- what an answer of this code says, whatever its value
+pub record SaidBy (code : ℕ) (r : Said) : Type 0 where
+  pub says : (value : ℕ) → r ≡ saidOf (answerOf code value)
 
 -- at most one record
 abbrev pub notedBy : Account → List Record → Noted

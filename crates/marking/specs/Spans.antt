@@ -33,17 +33,25 @@ pub record Cut : Type 0 where
   pub front : List Entry
   pub spans : List Span
 
+-- the stretches from x on, if x begins one
+abbrev pub from : Entry → Cut → List Span
+from x u = record { first = x; others = u .front } ∷ u .spans
+
+-- x, told Restart, before what is cut so; and x, told anything else
+abbrev pub broken : Entry → Cut → Cut
+broken x u = record { front = []; spans = from x u }
+
+abbrev pub unbroken : Entry → Cut → Cut
+unbroken x u = record { front = x ∷ u .front; spans = u .spans }
+
 abbrev pub cut : List Entry → Cut
 cut [] = record { front = []; spans = [] }
-cut (x ∷ xs) =
-    cond (isRestart (x .says .event))
-    (record { front = []; spans = record { first = x; others = (cut xs) .front } ∷ (cut xs) .spans })
-    (record { front = x ∷ (cut xs) .front; spans = (cut xs) .spans })
+cut (x ∷ xs) = cond (isRestart (x .says .event)) (broken x (cut xs)) (unbroken x (cut xs))
 
 -- the first stretch begins with the first arrival
 abbrev pub spansOf : List Entry → List Span
 spansOf [] = []
-spansOf (x ∷ xs) = record { first = x; others = (cut xs) .front } ∷ (cut xs) .spans
+spansOf (x ∷ xs) = from x (cut xs)
 
 -- ---- that these are demand 3's: all arrivals in order, each stretch but the first begun by Restart, and none within one
 
@@ -51,8 +59,8 @@ abbrev pub arrivalsIn : List Span → List Entry
 arrivalsIn [] = []
 arrivalsIn (p ∷ ps) = (p .first ∷ p .others) ++ arrivalsIn ps
 
-abbrev pub Unbroken : Span → Type 0
-Unbroken p = Each (λ y. y .says .event ≢ some Restart) (p .others)
+abbrev pub Steady : Span → Type 0
+Steady p = Each (λ y. y .says .event ≢ some Restart) (p .others)
 
 abbrev pub Begun : List Span → Type 0
 Begun [] = Unit {0}
@@ -61,7 +69,7 @@ Begun (p ∷ ps) = Each (λ q. q .first .says .event ≡ some Restart) ps
 pub record Splits (entries : List Entry) (ps : List Span) : Type 0 where
   pub all : arrivalsIn ps ≡ entries
   pub begun : Begun ps
-  pub unbroken : Each Unbroken ps
+  pub steady : Each Steady ps
 
 -- ---- what is told
 

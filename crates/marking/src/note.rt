@@ -5,7 +5,7 @@ ghost use Rattle.encoding.specs.Lists.{part};
 ghost use Rattle.answers.specs.Code.{answerOf, answerIn};
 ghost use Rattle.tally.specs.Table.{fitting};
 ghost use Rattle.marking.specs.Records.{numberIn, heardAs};
-ghost use Rattle.marking.specs.Noting.{saidOf, notedBy, tableAfter, handedBy, noteOf, tableOf};
+ghost use Rattle.marking.specs.Noting.{SaidBy, notedBy, tableAfter, handedBy, noteOf, tableOf};
 use answers::CODE;
 use answers::GAP;
 use answers::IN_ORDER;
@@ -32,7 +32,7 @@ pub(crate) enum Said {
 }
 
 fn said_by(code: u64) -> Said
-    ensures { λ r. ⌜ r ≡ saidOf code ⌝ }
+    ensures { λ r. ⌜ SaidBy code r ⌝ }
 {
     if code >= GAP {
         return Said::Event(Event::Gap);

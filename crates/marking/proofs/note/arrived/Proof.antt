@@ -24,13 +24,13 @@ returns : tie.Need-returns
 returns c =
     let a = c .before .before .before .before .args in
     nothing-said (a .table .now) (a .a) (a .reading) (a .number) (a .code) (a .value)
-    (sym (c .before .enum-told .given .1) ∙ c .before .before .before .said-by .ensures) _ (c .same .ensures)
+    (sym (c .before .enum-told .given .1) ∙ c .before .before .before .said-by .ensures .says (a .value)) _ (c .same .ensures)
 
 returns-2 : tie.Need-returns-2
 returns-2 c =
     let a = c .before .before .before .before .before .before .args in
     event-said (a .table .now) (a .a) (a .reading) (a .number) (a .code) (a .value) _
-    (sym (c .before .before .before .told .given .1) ∙ c .before .before .before .before .before .said-by .ensures) _ _ (c .note .ensures)
+    (sym (c .before .before .before .told .given .1) ∙ c .before .before .before .before .before .said-by .ensures .says (a .value)) _ _ (c .note .ensures)
 
 pub arrived-spec : {M : Type 1} → statement M
 arrived-spec =

@@ -1,4 +1,4 @@
--- A call whose numbers are within their bounds is always run. Assumes nothing.
+-- A call that a line was read as is always run: its numbers are within the rooms that are lent for it. Assumes nothing.
 use Prim.Native.Nat.{ℕ, _/_, _%_, _≤_, _^_}
 use mathlib.Core.Path.{_≡_, refl, sym, ap, _∙_}
 use mathlib.Core.Bool.{Bool, true, _&&_}
@@ -16,8 +16,8 @@ use Rattle.replay.specs.Runs.{Left, carried, Carries}
 use Rattle.encoding.specs.declared.words.Words.{Words}
 use Rattle.encoding.specs.declared.check.Outcome.{Outcome}
 use Rattle.encoding.specs.declared.check.Outcome.the-variants.{Ran}
 use Rattle.examining.specs.Marks.{Rooms}
-use Rattle.examining.specs.Stands.{Bounded}
+use Rattle.lines.specs.Call.{Fit}
 
 both : (a b : Bool) → a ≡ true → b ≡ true → a && b ≡ true
 both a b e f = rw (e, f) refl
@@ -25,7 +25,7 @@ both a b e f = rw (e, f) refl
 used-most : (b : Bool) (n most : ℕ) → (b ≡ true → n ≤ most) → ifUsed b n ≤ most
 used-most b n most h = pick-either _ _ _ (λ (k : ℕ). k ≤ most) h (λ _. omega arith)
 
-module _ (l : Lent) (answers : ℕ) (one : length (l .calls) ≡ 8) (r : Rooms l answers) (h : Bounded (l .calls)) where
+module _ (l : Lent) (answers : ℕ) (one : length (l .calls) ≡ 8) (r : Rooms l answers) (h : Fit (l .calls)) where
   abbrev w : Words
   w = wordsAt (l .calls) 0
 
@@ -47,17 +47,17 @@ module _ (l : Lent) (answers : ℕ) (one : length (l .calls) ≡ 8) (r : Rooms l
   unfolding checkFrom
   checked = pick-t _ _ _ is-call ∙ pick-t _ _ _ has-room
 
-  bounded-runs : outcomeOf l answers ≡ Ran
+  fit-runs : outcomeOf l answers ≡ Ran
   unfolding outcomeIn
-  bounded-runs =
+  fit-runs =
       pick-t _ _ _ (ap (λ (n : ℕ). eqb (n % 8) 0) one)
       ∙ pick-t _ _ _ (eq-eqb answers (length (l .calls)) (r .answer ∙ sym one))
       ∙ ap (λ (n : ℕ). checkFrom (l .calls) (room l) (n / 8) 0 nothing) one
       ∙ checked
 
 -- what the code says became of it
-pub bounded-ran : (outcome : Outcome) (st : State) (l : Lent) (answers₀ answers packets : List ℕ) (places : List Float) (st′ : State)
-    → Carries outcome st l answers₀ answers packets places st′ → length (l .calls) ≡ 8 → Rooms l (length answers₀) → Bounded (l .calls) → outcome ≡ Ran
+pub fit-ran : (outcome : Outcome) (st : State) (l : Lent) (answers₀ answers packets : List ℕ) (places : List Float) (st′ : State)
+    → Carries outcome st l answers₀ answers packets places st′ → length (l .calls) ≡ 8 → Rooms l (length answers₀) → Fit (l .calls) → outcome ≡ Ran
 unfolding carried
-bounded-ran outcome st l answers₀ answers packets places st′ c one r h =
-    ap (λ (x : Left). x .outcome) (c .leaves ∙ pick-t _ _ _ (ap isRan (bounded-runs l (length answers₀) one r h)))
+fit-ran outcome st l answers₀ answers packets places st′ c one r h =
+    ap (λ (x : Left). x .outcome) (c .leaves ∙ pick-t _ _ _ (ap isRan (fit-runs l (length answers₀) one r h)))
