@@ -1,5 +1,6 @@
 //! Takes manta's files from MANTA_SRC, the folder with its crates/, and changes what ties them to a clock, a socket and the
-//! rest of manta: exact text for exact text, each as often as it says. wire.rs and discovery.rs stay as they are.
+//! rest of manta, and what the requests ask for (docs/CHANGES.md): exact text for exact text, each as often as it says. wire.rs and
+//! discovery.rs stay as they are.
 use std::path::{Path, PathBuf};
 use std::{env, fs};
 
@@ -26,6 +27,16 @@ const PROTO2: [Change; 5] = [
         1,
         "/// tests (MAN-305 Phase 3/4).\n",
         "/// tests (MAN-305 Phase 3/4).\n#[path = \"{HERE}/src/session/mod.rs\"]\npub mod session;\n",
+    ),
+];
+
+/// What a request adds to the Rust, at the place that it names. None of this is manta's.
+const REQUESTS: [Change; 1] = [
+    // 2026-01: port 0, after the centre's two tests and before the port map's
+    (
+        1,
+        "             radio's 122.88 MHz ADC Nyquist limit\"\n        );\n    }\n",
+        "             radio's 122.88 MHz ADC Nyquist limit\"\n        );\n    } if cfg.port == 0 { bail!(\"request 2026-01: port 0\"); }\n",
     ),
 ];
 
@@ -125,7 +136,7 @@ fn main() {
     for (times, part) in ASKS {
         assert_count("proto2/mod.rs", &proto2, times, part);
     }
-    files.change("hpsdr/proto2/mod.rs", &PROTO2);
+    files.change("hpsdr/proto2/mod.rs", &[&PROTO2[..], &REQUESTS].concat());
     files.change("hpsdr/proto2/attenuator.rs", &[CLOCK]);
     files.change("stall.rs", &[CLOCK]);
     files.change("hpsdr/proto2/wire.rs", &[]);

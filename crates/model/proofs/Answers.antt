@@ -30,7 +30,8 @@ settings-by k =
     (pick (eqb k 2) settings.CenterCount
     (pick (eqb k 3) settings.Rate
     (pick (eqb k 4) settings.Center
-    (pick (eqb k 5) settings.CenterTooHigh settings.Port))))
+    (pick (eqb k 5) settings.CenterTooHigh
+    (pick (eqb k 19) settings.PortZero settings.Port)))))
 
 settings-back : Told → SettingsAnswer
 settings-back (gives vs) = settings.Accepted (getD vs 0 0)
@@ -44,6 +45,7 @@ settings-same settings.CenterCount = refl
 settings-same settings.Rate = refl
 settings-same settings.Center = refl
 settings-same settings.CenterTooHigh = refl
+settings-same settings.PortZero = refl
 settings-same settings.Port = refl
 
 -- ---- an answer's number: 01's where it is refused

@@ -17,4 +17,5 @@ pub mod Walks
 -- trials of the definitions
 pub mod Edges
 pub mod Worked
+pub mod WorkedRows
 pub mod WorkedStates

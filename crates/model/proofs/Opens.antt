@@ -132,7 +132,7 @@ fixed samples st (c ∷ cs) =
 -- ---- the phase word of a session: floor(centre × 65536 / 1875), for all accepted settings and every list of calls
 
 centre-accepted : (s : Settings) → T (accepts s) → T (acceptedCentre (s .«center_freq_hz»))
-centre-accepted s ok = let p = accepted-plain s ok in both _ _ (p .whole) (p .below)
+centre-accepted s ok = let p = accepted-plain s ok .tunable in both _ _ (p .whole) (p .below)
   where
     both : (a b : Bool) → a ≡ true → b ≡ true → T (a && b)
     both true true h k = tt

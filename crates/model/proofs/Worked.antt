@@ -1,28 +1,23 @@
 -- Worked cases of the rules that session and book share, which demand 3's theorem can't see a fault in, by computation. Their values
 -- are worked out by hand from 01; those of arrivals are the Rust's too (lists/worked). Assumes nothing.
 use Prim.Native.Nat.{ℕ, _+_}
-use mathlib.Core.Bool.{false}
 use mathlib.Core.List.{List, [], _∷_}
-use lib.Ieee.{Float, nan, inf, fin, lt, eq, ofInt, mul, div, add, sub, round}
-use lib.IntN.{pos}
-use Rattle.double.specs.Whole.{most, natOf, rounded, isWhole}
+use lib.Ieee.{ofInt, mul, div, add, sub, round}
+use Rattle.double.specs.Whole.{most, natOf, rounded}
 use Rattle.stream.specs.Elapsed.{jumpLimit, restartMissing, accountTime, coveredTime, plausible}
-use Rattle.base.specs.Told.{Told, gives, refused}
 use Rattle.stall.specs.Episode.{unarmed}
 use Rattle.sequence.specs.declared.SeqEvent.the-variants.{Gap, Restart}
-use Rattle.model.specs.Settings.{settingsTold}
 use Rattle.model.specs.Answer.{Answer, heard}
 use Rattle.model.specs.Rules.{begun, used, elapsed, backlog, outage, added, refilled, capped, datagrams, uncovered, missingOf}
 use Rattle.model.specs.Routing.{Routed, iq, status, ignored, malformed, routed, byOffset}
 use Rattle.model.specs.Host.{Incoming, Arrival}
-use Rattle.model.specs.Pass.{passed}
 use lib.ListN.{replicate}
 use Rattle.model.specs.State.{State, left, waits}
 use Rattle.model.specs.Open.{newCommon}
 use Rattle.model.specs.Session.{step}
-use Rattle.model.specs.Lists.{kHz48, mHz7, radio, usual, datagram, iqAt, iqWith, room, silence}
+use Rattle.model.specs.Lists.{kHz48, radio, usual, datagram, iqAt, iqWith, room, silence}
 use Rattle.base.specs.Cases.{Case, case, Hold}
-use Rattle.model.specs.Edges.{Given, number, answer, told, window, held, route}
+use Rattle.model.specs.Edges.{Given, number, answer, window, held, route}
 use Rattle.model.specs.declared.receiver.Anchor.the-variants.{At}
 use Rattle.model.specs.declared.receiver.Window.{Window}
 use Rattle.model.specs.declared.receiver.Window.the-variants.{Shut, Open}
@@ -32,9 +27,6 @@ use Rattle.model.specs.declared.sender.Sender.the-variants.{V4, V6}
 use mathlib.Core.Path.{refl}
 use Rattle.base.specs.Pick.{pick}
 use Rattle.double.specs.Seconds.{secondsOf}
-use Rattle.base.specs.Search.{first}
-use Rattle.tuning.specs.Rate.{rateAt, isRate, khzOf}
-use Rattle.tuning.specs.Centre.{wholeCentre, belowNyquist}
 use Rattle.iq.specs.Iq.{headerTold, rows}
 use Rattle.sequence.specs.Tracker.{past}
 use Rattle.sequence.specs.Tracker as Sequence
@@ -168,46 +160,6 @@ routeCases =
     ∷ routes (V4 radio 1035) [] malformed
     ∷ []
 
--- ---- settings: of all rows that apply the first is told
-
-abbrev settings : ℕ → ℕ → Float → Float → ℕ → Told → Case Given
-settings receivers centres rate centre port is =
-    case
-    (told
-    (settingsTold
-    (record {
-      «ddc_count» = receivers;
-      «center_count» = centres;
-      «sample_rate_hz» = rate;
-      «center_freq_hz» = centre;
-      port = port;
-      «radio_ip» = usual .«radio_ip»;
-      board = usual .board;
-      attenuation = usual .attenuation;
-      «soft_after» = 0;
-      «stall_after» = 0;
-      «park_window» = 0;
-      «max_consecutive_malformed» = 0;
-    })))
-    (told is)
-
-abbrev pub rowCases : List (Case Given)
-rowCases =
-    settings 1 1 kHz48 mHz7 0 (gives (48 ∷ []))
-    ∷ settings 2 2 nan nan 65535 (refused 1 [])
-    ∷ settings 0 1 kHz48 mHz7 0 (refused 1 [])
-    ∷ settings 1 2 nan nan 65535 (refused 2 [])
-    ∷ settings 1 0 kHz48 mHz7 0 (refused 2 [])
-    ∷ settings 1 1 nan nan 65535 (refused 3 [])
-    -- an infinite centre is 4, not 5
-    ∷ settings 1 1 kHz48 (inf false) 65535 (refused 4 [])
-    ∷ settings 1 1 kHz48 nan 65535 (refused 4 [])
-    -- 61,440,000 Hz, and 1 Hz less
-    ∷ settings 1 1 kHz48 (fin false 61440000 (pos 0)) 65535 (refused 5 [])
-    ∷ settings 1 1 kHz48 (fin false 61439999 (pos 0)) 65535 (refused 6 [])
-    ∷ settings 1 1 kHz48 mHz7 65535 (refused 6 [])
-    ∷ []
-
 -- ---- arrivals of lists/worked, with the Rust's answers
 
 -- a receiver that expects a number since the reading `accepted`, with a read open in this window
@@ -271,10 +223,6 @@ slots-hold = refl
 pub routes-hold : Hold routeCases
 unfolding pick routed byOffset headerTold rows
 routes-hold = refl
-
-pub rows-hold : Hold rowCases
-unfolding pick settingsTold isRate rateAt first khzOf eq ofInt wholeCentre belowNyquist isWhole lt
-rows-hold = refl
 
 pub arrivals-hold : Hold arrivalCases
 unfolding pick newCommon step arrival arrived routed byOffset headerTold rows heardIq heardAs hear eventOf restartOf capped acceptedBy leftOut used missingOf waits left

@@ -12,7 +12,7 @@ use Rattle.model.specs.declared.settings.Settings.{Settings}
 use Rattle.model.specs.declared.settings.AttenuationChoice.{AttenuationChoice}
 use Rattle.model.specs.declared.settings.AttenuationChoice.the-variants.{Off, On, Unsaid}
 use Rattle.model.specs.declared.settings.SettingsAnswer.{SettingsAnswer}
-use Rattle.model.specs.declared.settings.SettingsAnswer.the-variants.{Accepted, DdcCount, CenterCount, Rate, Center, CenterTooHigh, Port}
+use Rattle.model.specs.declared.settings.SettingsAnswer.the-variants.{Accepted, DdcCount, CenterCount, Rate, Center, CenterTooHigh, PortZero, Port}
 
 -- validate_protocol2: by the first row that applies, else the rate in kHz
 unfoldable pub settingsTold : Settings → Told
@@ -26,14 +26,19 @@ isGiven (refused k vs) = false
 unfoldable pub accepts : Settings → Bool
 accepts s = isGiven (settingsTold s)
 
--- what is accepted, row by row
-pub record Plain (s : Settings) : Type 0 where
+-- what rows 1 to 5 leave
+pub record Tunable (s : Settings) : Type 0 where
   pub receivers : s .«ddc_count» ≡ 1
   pub centres : s .«center_count» ≡ 1
   pub rate : isRate (s .«sample_rate_hz») ≡ true
   pub whole : wholeCentre (s .«center_freq_hz») ≡ true
   pub below : belowNyquist (s .«center_freq_hz») ≡ true
-  pub port : s .port ≤ 65524
+
+-- what is accepted: that, with a port from 1 to 65,524
+pub record Plain (s : Settings) : Type 0 where
+  pub tunable : Tunable s
+  pub lowest : 1 ≤ s .port
+  pub highest : s .port ≤ 65524
 
 abbrev pub settingsAnswer : SettingsAnswer → Told
 settingsAnswer (Accepted khz) = gives (khz ∷ [])
@@ -42,6 +47,7 @@ settingsAnswer CenterCount = refused 2 []
 settingsAnswer Rate = refused 3 []
 settingsAnswer Center = refused 4 []
 settingsAnswer CenterTooHigh = refused 5 []
+settingsAnswer PortZero = refused 19 []
 settingsAnswer Port = refused 6 []
 
 -- off, on or unsaid; unsaid means off

@@ -1,4 +1,5 @@
--- 01's table of refusals: the rows of the settings and of each call, in order, each with its number and its test. Definitions only.
+-- 01's table of refusals, with the row of request 2026-01: the rows of the settings and of each call, in order, each with its number
+-- and its test. Definitions only.
 use Prim.Native.Nat.{ℕ}
 use mathlib.Core.Bool.{not}
 use mathlib.Core.List.{List, [], _∷_}
@@ -31,6 +32,8 @@ settingsRows s =
     ∷ row 4 (not (wholeCentre (s .«center_freq_hz»)))
     -- the centre is 61,440,000 Hz or higher
     ∷ row 5 (not (belowNyquist (s .«center_freq_hz»)))
+    -- the port is 0, which is what an empty field gives (2026-01)
+    ∷ row 19 (eqb (s .port) 0)
     -- the port is above 65,524
     ∷ row 6 (ltb 65524 (s .port))
     ∷ []

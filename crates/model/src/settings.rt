@@ -36,5 +36,8 @@ pub enum SettingsAnswer {
     Rate,
     Center,
     CenterTooHigh,
+    // port 0
+    PortZero,
+    // a port that leaves no room for the radio's port map
     Port,
 }

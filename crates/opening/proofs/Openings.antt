@@ -16,12 +16,12 @@ use Rattle.model.specs.Parts.{with-common, with-closed}
 use Rattle.model.specs.declared.answer.Opened.{Opened}
 use Rattle.model.specs.declared.settings.Settings.{Settings}
 use Rattle.model.specs.declared.settings.SettingsAnswer.{SettingsAnswer}
-use Rattle.model.specs.declared.settings.SettingsAnswer.the-variants.{Accepted, DdcCount, CenterCount, Rate, Center, CenterTooHigh, Port}
+use Rattle.model.specs.declared.settings.SettingsAnswer.the-variants.{Accepted, DdcCount, CenterCount, Rate, Center, CenterTooHigh, PortZero, Port}
 use Rattle.model.specs.declared.session.Attenuation.{Attenuation}
 use Rattle.model.specs.declared.session.Session.{Session}
 use Rattle.model.specs.declared.session.Tuning.{Tuning}
 use Rattle.opening.specs.Opens.{Opens}
-use Rattle.opening.proofs.Settled.{khz-is}
+use Rattle.model.proofs.Rows.{khz-is}
 
 -- ---- what the packets carry
 
@@ -79,6 +79,7 @@ module _ (s : Settings) (now : ℕ) (a : SettingsAnswer) (x : Session) where
       go Rate n = refl
       go Center n = refl
       go CenterTooHigh n = refl
+      go PortZero n = refl
       go Port n = refl
 
   pub opened-so : (k : ℕ) → a ≡ Accepted k → settingsAnswer a ≡ settingsTold s → x ≡ newSession k s now

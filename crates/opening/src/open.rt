@@ -164,7 +164,7 @@ fn unopened() -> Session
 
 // Opens a session: `s` is what the caller asks for, `now` the opening reading, which every clock and the last accepted reading then
 // hold. Lend 476 f32 beside the session to every call that takes samples; what they hold at first makes no difference. Accepted: go
-// on with the session; the rate in kHz is what its packets say. Any other answer is 01's row 1 to 6 (`refusal` gives the number):
+// on with the session; the rate in kHz is what its packets say. Any other answer is a row of the settings (`refusal` gives the number):
 // ask again with other settings. The session beside a refusal is closed, and each call of it is refused by 10.
 pub fn open(s: Settings, now: u64) -> Opened
     ensures { λ r. ⌜ Opens r s now ⌝ }

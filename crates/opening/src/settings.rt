@@ -1,4 +1,4 @@
-// The settings: 01's rows 1 to 6, in order.
+// The settings: 01's rows 1 to 6 and request 2026-01's row 19, in order.
 ghost use mathlib.Core.Path.{_≡_};
 ghost use Rattle.tuning.specs.Centre.{wholeCentre, belowNyquist};
 ghost use Rattle.model.specs.Settings.{settingsAnswer, settingsTold};
@@ -56,13 +56,16 @@ pub fn validate_protocol2(s: Settings) -> SettingsAnswer
     if !below_nyquist(s.center_freq_hz) {
         return SettingsAnswer::CenterTooHigh;
     }
+    if s.port == 0 {
+        return SettingsAnswer::PortZero;
+    }
     if s.port > MAX_PORT {
         return SettingsAnswer::Port;
     }
     SettingsAnswer::Accepted(khz)
 }
 
-// 01's number of a refusal; 0 where the settings are accepted.
+// A refusal's number; 0 where the settings are accepted.
 pub fn refusal(a: SettingsAnswer) -> u64
     ensures { λ r. ⌜ r ≡ numberOf (settingsAnswer a) ⌝ }
 {
@@ -73,6 +76,7 @@ pub fn refusal(a: SettingsAnswer) -> u64
         SettingsAnswer::Rate => 3,
         SettingsAnswer::Center => 4,
         SettingsAnswer::CenterTooHigh => 5,
+        SettingsAnswer::PortZero => 19,
         SettingsAnswer::Port => 6,
     }
 }

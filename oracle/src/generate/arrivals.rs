@@ -149,7 +149,7 @@ impl RandomFeed {
                 port.saturating_add(r.from_to(12, 300) as u16),
                 vec![],
             ),
-            6 if port > 0 => Datagram::Any(Some(radio), r.below(port as u64) as u16, vec![2, 3]),
+            6 => Datagram::Any(Some(radio), r.below(port as u64) as u16, vec![2, 3]),
             7 => Datagram::Any(stray(1 << 24), port + 1, vec![0; 60]),
             _ => Datagram::Any(Some(radio), port + 11, vec![0; r.below(40) as usize]),
         };

@@ -86,7 +86,7 @@ pub fn accepted(r: &mut Random, theme: Theme) -> Settings {
         at: r.one_of(&[0, 0, 1, 5 * S, 1 << 40, 1 << 62]),
         rate: r.one_of(&[48000.0, 96000.0, 192000.0, 384000.0]),
         centre: centre(r),
-        port: r.one_of(&[1024, 1024, 0, 65524, 50000]),
+        port: r.one_of(&[1024, 1024, 1, 65524, 50000]),
         radio: Ipv4Addr::from(r.one_of(&[0x0a00_0002, 0, 0x7f00_0001, 0xffff_ffff, 0xc0a8_0109])),
         board,
         attenuation,
@@ -148,8 +148,8 @@ pub fn any(r: &mut Random) -> Settings {
     if r.percent(30) {
         s.centre = any_centre(r);
     }
-    if r.percent(30) {
-        s.port = r.one_of(&[65524, 65525, 65535]);
+    if r.percent(50) {
+        s.port = r.one_of(&[0, 1, 65524, 65525, 65535]);
     }
     s
 }

@@ -42,18 +42,19 @@ pub struct Read {
     pub missing: u64,
 }
 
-/// 01's number for what `validate_protocol2` says.
+/// The number for what `validate_protocol2` says: 01's, and that of the test that a request adds (build.rs).
 fn refusal(text: &str) -> u8 {
-    const TEXTS: [&str; 6] = [
-        "supports exactly one DDC",
-        "needs exactly one centre frequency",
-        "only encodes exactly",
-        "is not a positive whole number of Hz",
-        "Nyquist limit",
-        "leaves no room for the radio's port map",
+    const TEXTS: [(u8, &str); 7] = [
+        (1, "supports exactly one DDC"),
+        (2, "needs exactly one centre frequency"),
+        (3, "only encodes exactly"),
+        (4, "is not a positive whole number of Hz"),
+        (5, "Nyquist limit"),
+        (19, "request 2026-01: port 0"),
+        (6, "leaves no room for the radio's port map"),
     ];
-    let found = TEXTS.iter().position(|part| text.contains(part));
-    found.unwrap_or_else(|| panic!("{text}")) as u8 + 1
+    let found = TEXTS.iter().find(|(_, part)| text.contains(part));
+    found.unwrap_or_else(|| panic!("{text}")).0
 }
 
 /// Open and Close ask for no calls.

@@ -1,6 +1,7 @@
 -- `opening::open::open` meets its contract. Assumes nothing.
+use Prim.Native.Nat.{ℕ}
 use mathlib.Core.Path.{subst}
-use mathlib.Core.List.{[], _∷_}
+use mathlib.Core.List.{List, [], _∷_}
 use types.Run.{OneOf, miss}
 use denote.Enum.Declared.{tagOf}
 use Rattle.model.proofs.settings.SettingsAnswer.{the-type}
@@ -19,10 +20,14 @@ enum-known-answer c = search needs
 unopened-requires : tie.Need-unopened-requires
 unopened-requires c κs = search needs
 
+-- the tags of the answers that refuse
+abbrev refusals : List ℕ
+refusals = 1 ∷ 2 ∷ 3 ∷ 4 ∷ 5 ∷ 6 ∷ 7 ∷ []
+
 returns : tie.Need-returns
 returns c = let a = c .before .before .before .args in
     opened-not (a .s) (a .now) (c .before .before .validate-protocol2 .result) _
-    (λ k e. miss (1 ∷ 2 ∷ 3 ∷ 4 ∷ 5 ∷ 6 ∷ []) 0 tt (subst (λ (x : SettingsAnswer). OneOf (1 ∷ 2 ∷ 3 ∷ 4 ∷ 5 ∷ 6 ∷ []) (tagOf the-type x)) e (c .before .match .keys2)))
+    (λ k e. miss refusals 0 tt (subst (λ (x : SettingsAnswer). OneOf refusals (tagOf the-type x)) e (c .before .match .keys2)))
     (c .before .before .validate-protocol2 .ensures) (c .unopened .ensures)
 
 new-session-requires : tie.Need-new-session-requires

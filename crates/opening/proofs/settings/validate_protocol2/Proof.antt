@@ -1,20 +1,25 @@
 -- `opening::settings::validate_protocol2` meets its contract: the rows in order. Assumes nothing.
-use mathlib.Core.Path.{_≡_, ap}
+use Prim.Native.Nat.{ℕ}
+use mathlib.Core.Path.{_≡_, sym, ap, _∙_}
 use mathlib.Core.Bool.{true}
+use mathlib.Core.List.{[], _∷_}
+use native.Mathlib.Omega.{arith}
+use Rattle.base.specs.Told.{gives}
 use Rattle.base.proofs.Tests.{was}
 use borrow.Author.Tests.{not-true, not-false}
 use Rattle.tuning.specs.Rate.{isRate, khzOf, rateAnswer}
 use Rattle.tuning.proofs.Rates.{given-khz, refused-rate}
-use Rattle.opening.proofs.Settled.{row-1, row-2, row-3, row-4, row-5, row-6, no-row}
+use Rattle.model.specs.Settings.{Tunable}
+use Rattle.model.proofs.Rows.{row-1, row-2, row-3, row-4, row-5, row-19, row-6, plain-accepted}
 use borrow.Author.Needs.{needs}
 use Rattle.opening.proofs.settings.validate_protocol2.Statement.{statement}
 use Rattle.opening.proofs.settings.validate_protocol2.Tie as tie
 
 returns : tie.Need-returns
-returns c = row-1 (c .before .before .args .s) (c .if1 .taken)
+returns c = sym (row-1 (c .before .before .args .s) (c .if1 .taken))
 
 returns-2 : tie.Need-returns-2
-returns-2 c = row-2 (c .before .before .before .before .args .s) (c .before .before .if1 .left) (c .if2 .taken)
+returns-2 c = sym (row-2 (c .before .before .before .before .args .s) (c .before .before .if1 .left) (c .if2 .taken))
 
 rate-khz-requires : tie.Need-rate-khz-requires
 rate-khz-requires c κs = search needs
@@ -26,7 +31,7 @@ enum-told : tie.Need-enum-told
 enum-told c = search needs
 
 returns-3 : tie.Need-returns-3
-returns-3 c = row-3 (c .before .before .before .before .before .before .before .args .s) (c .before .before .before .before .before .if1 .left) (c .before .before .before .if2 .left) (refused-rate (c .before .before .before .before .before .before .before .args .s .«sample_rate_hz») (was (ap rateAnswer (c .enum-told .given .1)) (c .before .before .rate-khz .ensures)))
+returns-3 c = sym (row-3 (c .before .before .before .before .before .before .before .args .s) (c .before .before .before .before .before .if1 .left) (c .before .before .before .if2 .left) (refused-rate (c .before .before .before .before .before .before .before .args .s .«sample_rate_hz») (was (ap rateAnswer (c .enum-told .given .1)) (c .before .before .rate-khz .ensures))))
 
 whole-centre-requires : tie.Need-whole-centre-requires
 whole-centre-requires c κs = search needs
@@ -38,21 +43,36 @@ rated : (c : tie.After-known-told)
 rated c = given-khz _ _ (was (ap rateAnswer (c .before .rate .given .1)) (c .before .before .before .rate-khz .ensures))
 
 returns-4 : tie.Need-returns-4
-returns-4 c = row-4 (c .before .before .before .before .before .before .before .before .before .before .args .s) (c .before .before .before .before .before .before .before .before .if1 .left) (c .before .before .before .before .before .before .if2 .left) (rated (c .before .before) .0) (was (c .before .whole-centre .ensures) (not-true _ (c .if3 .taken)))
+returns-4 c = sym (row-4 (c .before .before .before .before .before .before .before .before .before .before .args .s) (c .before .before .before .before .before .before .before .before .if1 .left) (c .before .before .before .before .before .before .if2 .left) (rated (c .before .before) .0) (was (c .before .whole-centre .ensures) (not-true _ (c .if3 .taken))))
 
 below-nyquist-requires : tie.Need-below-nyquist-requires
 below-nyquist-requires c κs = search needs
 
 returns-5 : tie.Need-returns-5
-returns-5 c = row-5 (c .before .before .before .before .before .before .before .before .before .before .before .before .args .s) (c .before .before .before .before .before .before .before .before .before .before .if1 .left) (c .before .before .before .before .before .before .before .before .if2 .left) (rated (c .before .before .before .before) .0) (was (c .before .before .before .whole-centre .ensures) (not-false _ (c .before .before .if3 .left))) (was (c .before .below-nyquist .ensures) (not-true _ (c .if4 .taken)))
+returns-5 c = sym (row-5 (c .before .before .before .before .before .before .before .before .before .before .before .before .args .s) (c .before .before .before .before .before .before .before .before .before .before .if1 .left) (c .before .before .before .before .before .before .before .before .if2 .left) (rated (c .before .before .before .before) .0) (was (c .before .before .before .whole-centre .ensures) (not-false _ (c .before .before .if3 .left))) (was (c .before .below-nyquist .ensures) (not-true _ (c .if4 .taken))))
+
+-- rows 1 to 5 leave the settings
+tunable : (c : tie.Else4) → Tunable (c .before .before .before .before .before .before .before .before .before .before .before .before .args .s)
+tunable c =
+    record {
+      receivers = c .before .before .before .before .before .before .before .before .before .before .if1 .left;
+      centres = c .before .before .before .before .before .before .before .before .if2 .left;
+      rate = rated (c .before .before .before .before) .0;
+      whole = was (c .before .before .before .whole-centre .ensures) (not-false _ (c .before .before .if3 .left));
+      below = was (c .before .below-nyquist .ensures) (not-false _ (c .if4 .left));
+    }
 
 returns-6 : tie.Need-returns-6
-returns-6 c = row-6 (c .before .before .before .before .before .before .before .before .before .before .before .before .before .before .args .s) (c .before .before .before .before .before .before .before .before .before .before .before .before .if1 .left) (c .before .before .before .before .before .before .before .before .before .before .if2 .left) (rated (c .before .before .before .before .before .before) .0) (was (c .before .before .before .before .before .whole-centre .ensures) (not-false _ (c .before .before .before .before .if3 .left)))
-    (was (c .before .before .before .below-nyquist .ensures) (not-false _ (c .before .before .if4 .left))) (c .if5 .taken)
+returns-6 c = sym (row-19 (c .before .before .before .before .before .before .before .before .before .before .before .before .before .before .args .s) (tunable (c .before .before)) (c .if5 .taken))
 
 returns-7 : tie.Need-returns-7
-returns-7 c = no-row (c .before .before .before .before .before .before .before .before .before .before .before .before .before .before .args .s) (c .before .before .before .before .before .before .before .before .before .before .before .before .if1 .left) (c .before .before .before .before .before .before .before .before .before .before .if2 .left) (rated (c .before .before .before .before .before .before) .0) (was (c .before .before .before .before .before .whole-centre .ensures) (not-false _ (c .before .before .before .before .if3 .left)))
-    (was (c .before .before .before .below-nyquist .ensures) (not-false _ (c .before .before .if4 .left))) _ (c .if5 .left) (rated (c .before .before .before .before .before .before) .1)
+returns-7 c = sym (row-6 (c .before .before .before .before .before .before .before .before .before .before .before .before .before .before .before .before .args .s) (tunable (c .before .before .before .before)) (c .if6 .taken))
+
+returns-8 : tie.Need-returns-8
+returns-8 c =
+    let set = c .before .before .if5 .left in
+    ap (λ (khz : ℕ). gives (khz ∷ [])) (rated (c .before .before .before .before .before .before .before .before) .1)
+    ∙ sym (plain-accepted (c .before .before .before .before .before .before .before .before .before .before .before .before .before .before .before .before .args .s) (record { tunable = tunable (c .before .before .before .before); lowest = omega arith; highest = c .if6 .left }))
 
 pub validate-protocol2-spec : {M : Type 1} → statement M
 validate-protocol2-spec =
@@ -69,4 +89,5 @@ validate-protocol2-spec =
     below-nyquist-requires
     returns-5
     returns-6
-    returns-7)
+    returns-7
+    returns-8)

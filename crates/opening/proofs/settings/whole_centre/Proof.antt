@@ -2,7 +2,7 @@
 use Rattle.base.proofs.Tests.{was}
 use borrow.Author.Tests.{not-true, not-false}
 use lib.Ieee.{ofBits}
-use Rattle.opening.proofs.Settled.{not-finite, above-zero, not-above}
+use Rattle.opening.proofs.Centres.{not-finite, above-zero, not-above}
 use borrow.Author.Needs.{needs}
 use Rattle.opening.proofs.settings.whole_centre.Statement.{statement}
 use Rattle.opening.proofs.settings.whole_centre.Tie as tie
