@@ -1,7 +1,7 @@
 -- Answers and refusals, what every call keeps, and the cases: a file imports only what stands above it here.
 pub mod Answers
-pub mod Rows
 pub mod Refusals
+pub mod Rows
 pub mod Room
 pub mod Traces
 pub mod Pairs

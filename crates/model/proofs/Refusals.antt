@@ -12,6 +12,7 @@ use Rattle.base.proofs.Picks.{pick-either}
 use Rattle.base.specs.Rows.{firstRow, unless}
 use Rattle.base.proofs.Rows.{NoRow, unless-either, unless-map, unless-refused}
 use Rattle.base.specs.Told.{Told, gives, refused}
+use Rattle.tuning.specs.Rate.{khzOf}
 use Rattle.model.specs.Routing.{Routed, iq, status, ignored, malformed}
 use Rattle.model.specs.Host.{Incoming, Call, Begin, Pass, Arrival, Take, Close, TakeMissing, TakeDiscontinuity, TakeStalled, Step}
 use Rattle.model.specs.State.{State, refuse, keeping}
@@ -131,4 +132,4 @@ refused-unchanged st c =
 -- and of the settings
 pub settings-refused-by : (s : Settings) → refusalIn (settingsTold s) ≡ firstRow (settingsRows s)
 unfolding settingsTold
-settings-refused-by s = unless-refused refusalIn (settingsRows s) (λ k. refused k []) _ (λ k. refl) refl
+settings-refused-by s = unless-refused refusalIn (settingsRows s) (λ k. refused k []) (gives (khzOf (s .«sample_rate_hz») ∷ [])) (λ k. refl) refl

@@ -1,25 +1,26 @@
 -- `opening::settings::validate_protocol2` meets its contract: the rows in order. Assumes nothing.
 use Prim.Native.Nat.{ℕ}
 use mathlib.Core.Path.{_≡_, sym, ap, _∙_}
-use mathlib.Core.Bool.{true}
+use mathlib.Core.Bool.{true, not}
 use mathlib.Core.List.{[], _∷_}
 use native.Mathlib.Omega.{arith}
 use Rattle.base.specs.Told.{gives}
+use Rattle.base.proofs.Picks.{pick-t}
 use Rattle.base.proofs.Tests.{was}
-use borrow.Author.Tests.{not-true, not-false}
+use borrow.Author.Tests.{ne-eqb, not-true, not-false}
 use Rattle.tuning.specs.Rate.{isRate, khzOf, rateAnswer}
 use Rattle.tuning.proofs.Rates.{given-khz, refused-rate}
 use Rattle.model.specs.Settings.{Tunable}
-use Rattle.model.proofs.Rows.{row-1, row-2, row-3, row-4, row-5, row-19, row-6, plain-accepted}
+use Rattle.model.proofs.Rows.{one, past, row-4, row-19, row-6, plain-accepted}
 use borrow.Author.Needs.{needs}
 use Rattle.opening.proofs.settings.validate_protocol2.Statement.{statement}
 use Rattle.opening.proofs.settings.validate_protocol2.Tie as tie
 
 returns : tie.Need-returns
-returns c = sym (row-1 (c .before .before .args .s) (c .if1 .taken))
+returns c = sym (past (c .before .before .args .s) 0 tt ∙ pick-t _ _ _ (ap not (ne-eqb _ 1 (c .if1 .taken))))
 
 returns-2 : tie.Need-returns-2
-returns-2 c = sym (row-2 (c .before .before .before .before .args .s) (c .before .before .if1 .left) (c .if2 .taken))
+returns-2 c = sym (past (c .before .before .before .before .args .s) 1 (one (c .before .before .if1 .left), tt) ∙ pick-t _ _ _ (ap not (ne-eqb _ 1 (c .if2 .taken))))
 
 rate-khz-requires : tie.Need-rate-khz-requires
 rate-khz-requires c κs = search needs
@@ -31,7 +32,9 @@ enum-told : tie.Need-enum-told
 enum-told c = search needs
 
 returns-3 : tie.Need-returns-3
-returns-3 c = sym (row-3 (c .before .before .before .before .before .before .before .args .s) (c .before .before .before .before .before .if1 .left) (c .before .before .before .if2 .left) (refused-rate (c .before .before .before .before .before .before .before .args .s .«sample_rate_hz») (was (ap rateAnswer (c .enum-told .given .1)) (c .before .before .rate-khz .ensures))))
+returns-3 c =
+    let unrated = refused-rate (c .before .before .before .before .before .before .before .args .s .«sample_rate_hz») (was (ap rateAnswer (c .enum-told .given .1)) (c .before .before .rate-khz .ensures)) in
+    sym (past (c .before .before .before .before .before .before .before .args .s) 2 (one (c .before .before .before .before .before .if1 .left), (one (c .before .before .before .if2 .left), tt)) ∙ pick-t _ _ _ (ap not unrated))
 
 whole-centre-requires : tie.Need-whole-centre-requires
 whole-centre-requires c κs = search needs
@@ -49,7 +52,12 @@ below-nyquist-requires : tie.Need-below-nyquist-requires
 below-nyquist-requires c κs = search needs
 
 returns-5 : tie.Need-returns-5
-returns-5 c = sym (row-5 (c .before .before .before .before .before .before .before .before .before .before .before .before .args .s) (c .before .before .before .before .before .before .before .before .before .before .if1 .left) (c .before .before .before .before .before .before .before .before .if2 .left) (rated (c .before .before .before .before) .0) (was (c .before .before .before .whole-centre .ensures) (not-false _ (c .before .before .if3 .left))) (was (c .before .below-nyquist .ensures) (not-true _ (c .if4 .taken))))
+returns-5 c =
+    let whole = was (c .before .before .before .whole-centre .ensures) (not-false _ (c .before .before .if3 .left)) in
+    let high = was (c .before .below-nyquist .ensures) (not-true _ (c .if4 .taken)) in
+    sym
+    (past (c .before .before .before .before .before .before .before .before .before .before .before .before .args .s) 4 (one (c .before .before .before .before .before .before .before .before .before .before .if1 .left), (one (c .before .before .before .before .before .before .before .before .if2 .left), (ap not (rated (c .before .before .before .before) .0), (ap not whole, tt))))
+    ∙ pick-t _ _ _ (ap not high))
 
 -- rows 1 to 5 leave the settings
 tunable : (c : tie.Else4) → Tunable (c .before .before .before .before .before .before .before .before .before .before .before .before .args .s)
