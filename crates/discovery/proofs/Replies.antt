@@ -2,17 +2,17 @@
 use Prim.Native.Nat.{ℕ, _≤_, _<_}
 use mathlib.Core.Bool.{Bool, true, false, not, _&&_, and-false, or-false}
 use mathlib.Core.Path.{_≡_, refl, sym, ap, _∙_}
-use mathlib.Core.List.{List}
-use lib.ListN.{length, getD}
+use mathlib.Core.List.{List, [], _∷_}
+use lib.ListN.{length, getD, take, drop}
 use lib.Dec.{leb, eqb, leb→le, eqb→eq}
 use lib.Ieee.Fits.{and-l, and-r}
 use native.Mathlib.Omega.{arith}
 use borrow.Author.Tests.{eqb-true, le-leb, lt-leb, ne-eqb, not-true, not-false}
 use Rattle.base.specs.Pick.{pick}
 use Rattle.octets.specs.Number.{beAt}
-use Rattle.base.proofs.Picks.{pick-t, pick-f}
+use Rattle.base.proofs.Picks.{pick-t, pick-f, pick-either}
 use Rattle.base.specs.Told.{Told, gives, refused}
-use Rattle.discovery.specs.Reply.{Reply, statusNumber, replyAnswer, toldOf, noReply, isStatus, checked, isP1, isP2}
+use Rattle.discovery.specs.Reply.{Reply, statusNumber, replyAnswer, toldOf, noReply, isStatus, checked, isP1, replyP1, isP2, replyP2, replyTold}
 use Rattle.discovery.specs.declared.DiscoveryStatus.{DiscoveryStatus}
 use Rattle.discovery.specs.declared.DiscoveryStatus.the-variants.{Available, InUse}
 use Rattle.discovery.specs.declared.ReplyAnswer.{ReplyAnswer}
@@ -99,3 +99,37 @@ reply-same r = ap (λ (a : ReplyAnswer). record { answer = a; mac = r .mac }) (a
 
 pub reply-apart : (r s : DiscoveryReply) → toldOf r ≡ toldOf s → r ≡ s
 reply-apart r s e = sym (reply-same r) ∙ ap reply-back e ∙ reply-same s
+
+-- ---- a told reply of Protocol 2 was read off these places
+
+-- a reply of Protocol 2 in 01's terms
+abbrev pub told2 : ℕ → ℕ → ℕ → ℕ → List ℕ → Reply
+told2 status board firmware receivers mac = record { told = gives (2 ∷ status ∷ board ∷ firmware ∷ receivers ∷ []); mac = mac }
+
+pub record Places (b : List ℕ) (status board firmware receivers : ℕ) (mac : List ℕ) : Type 0 where
+  pub status-at : getD b 4 0 ≡ status
+  pub board-at : getD b 11 0 ≡ board
+  pub firmware-at : getD b 13 0 ≡ firmware
+  pub receivers-at : getD b 20 0 ≡ receivers
+  pub mac-at : take 6 (drop 5 b) ≡ mac
+
+pub places : (b : List ℕ) (s o f r : ℕ) (m : List ℕ) → replyTold b ≡ told2 s o f r m → Places b s o f r m
+unfolding replyTold checked
+places b s o f r m =
+    pick-either (isP1 b) (replyP1 b) _ Told
+    (λ _. pick-either (isStatus (getD b 2 0)) _ noReply Told (λ _ e. let t = ap (λ (x : Reply). x .told) e in let z : _≡_ {A = ℕ} 1 2 = cc in absurd (omega arith)) (λ _. none))
+    (λ _.
+    pick-either (isP2 b) (replyP2 b) noReply Told
+    (λ _.
+    pick-either (isStatus (getD b 4 0)) _ noReply Told
+    (λ _ e.
+    let t = ap (λ (x : Reply). x .told) e in
+    record { status-at = cc; board-at = cc; firmware-at = cc; receivers-at = cc; mac-at = ap (λ (x : Reply). x .mac) e })
+    (λ _. none))
+    (λ _. none))
+  where
+    Told : Reply → Type 0
+    Told x = x ≡ told2 s o f r m → Places b s o f r m
+
+    none : Told noReply
+    none e = let t = ap (λ (x : Reply). x .told) e in let z : _≡_ {A = ℕ} 0 1 = cc in absurd (omega arith)

@@ -28,21 +28,21 @@ const P1_BOARD: usize = 10;
 
 const P1_MIN_REPLY_LEN: usize = 11;
 
-const P2_STATUS: usize = 4;
+pub const P2_STATUS: usize = 4;
 
-const P2_MAC: usize = 5;
+pub const P2_MAC: usize = 5;
 
-const P2_BOARD: usize = 11;
+pub const P2_BOARD: usize = 11;
 
-const P2_FIRMWARE: usize = 13;
+pub const P2_FIRMWARE: usize = 13;
 
-const P2_DDC_COUNT: usize = 20;
+pub const P2_DDC_COUNT: usize = 20;
 
 const P2_MIN_REPLY_LEN: usize = 21;
 
-const STATUS_IDLE: u8 = 0x02;
+pub const STATUS_IDLE: u8 = 0x02;
 
-const STATUS_BUSY: u8 = 0x03;
+pub const STATUS_BUSY: u8 = 0x03;
 
 pub enum DiscoveryStatus {
     Available,

@@ -1,15 +1,16 @@
--- 24-bit samples in f32: nothing is rounded, and the code's cast, difference and quotient give them. Assumes nothing.
-use mathlib.Core.Path.{_≡_, refl, sym, ap, _∙_}
+-- 24-bit samples in f32: nothing is rounded, no two are alike, and the code's cast, difference and quotient give them. Assumes nothing.
+use mathlib.Core.Path.{_≡_, refl, sym, ap, _∙_, subst}
 use Prim.Native.Nat.{ℕ, _+_, _-_, _%_, _≤_, _<_}
-use native.Mathlib.Nat.{mul-one, zero-lt-suc}
+use native.Mathlib.Nat.{mul-one, zero-lt-suc, eq-of-mul-eq-mul-right}
 use native.Mathlib.Omega.{arith}
 use mathlib.Core.Bool.{Bool, true, false, not}
 use borrow.Author.Tests.{le-leb, lt-leb}
 use lib.IntN.{pos}
 use lib.Dec.{T, lit≤, ltb, ltb→lt, nltb→le}
-use lib.Ieee.{Float, fin, binary32, round, sub, div, ofInt, inFloat}
+use lib.Ieee.{Float, nan, inf, fin, binary32, down, round, sub, div, ofInt, inFloat}
 use lib.Ieee.Exact.{HasValue}
 use lib.Ieee.Back.{round-whole}
+use lib.Ieee.Fits.{down-pos}
 use Rattle.base.proofs.Picks.{pick-t, pick-f}
 use Rattle.double.proofs.Floors.{exact-fraction}
 use Rattle.double.proofs.Values.{sub-ge, sub-lt, div-of-values}
@@ -65,6 +66,28 @@ sample-exact v h =
     halves v
     (λ l. rw (sample-low v l, minus-low v l, magnitude-low v l) (exact-23 false v (omega arith)))
     (λ g. rw (sample-high v g, minus-high v g, magnitude-high v g) (exact-23 true (16777216 - v) (omega arith)))
+
+-- ---- so that different bits are different samples
+
+-- a float has one value over a number
+value-once : (x : Float) (s t : Bool) (a b c : ℕ) → HasValue x s a c → HasValue x t b c → (s ≡ t) × (a ≡ b)
+value-once nan s t a b c v w = absurd v
+value-once (inf u) s t a b c v w = absurd v
+value-once (fin u m e) s t a b c v w = (sym (v .0) ∙ w .0, eq-of-mul-eq-mul-right (down e) (down-pos e) a b (sym (v .1) ∙ w .1))
+
+same-bits : (u v : ℕ) → u < 16777216 → v < 16777216 → minus u ≡ minus v → magnitude u ≡ magnitude v → u ≡ v
+same-bits u v h k s m =
+    halves u
+    (λ a. halves v (λ b. omega (arith, magnitude-low u a, magnitude-low v b)) (λ b. clash (minus-low u a) (minus-high v b) s))
+    (λ a. halves v (λ b. clash (minus-low v b) (minus-high u a) (sym s)) (λ b. omega (arith, magnitude-high u a, magnitude-high v b)))
+  where
+    clash : {p q : Bool} → p ≡ false → q ≡ true → p ≡ q → u ≡ v
+    clash a b e = let z : _≡_ {A = ℕ} 0 1 = cc in absurd (omega arith)
+
+pub sample-once : (u v : ℕ) → u < 16777216 → v < 16777216 → sampleOf u ≡ sampleOf v → u ≡ v
+sample-once u v h k e =
+    let o = value-once (sampleOf u) (minus u) (minus v) (magnitude u) (magnitude v) 8388608 (sample-exact u h) (subst (λ (x : Float). HasValue x (minus v) (magnitude v) 8388608) (sym e) (sample-exact v k)) in
+    same-bits u v h k (o .0) (o .1)
 
 -- ---- the code's steps
 

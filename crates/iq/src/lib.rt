@@ -13,18 +13,18 @@ use stream::SAMPLES_PER_DATAGRAM;
 pub const IQ_DATAGRAM_LEN: usize = 1444;
 
 // What a header says of them: I/Q pairs in a datagram.
-const SAMPLES_PER_FRAME: u16 = SAMPLES_PER_DATAGRAM as u16;
+pub const SAMPLES_PER_FRAME: u16 = SAMPLES_PER_DATAGRAM as u16;
 
 // 2^23
 pub const P2_IQ_FULL_SCALE: f32 = 8_388_608.0;
 
-const SEQ_OFFSET: usize = 0;
+pub const SEQ_OFFSET: usize = 0;
 
-const IQ_BITS: usize = 12;
+pub const IQ_BITS: usize = 12;
 
-const IQ_SAMPLES: usize = 14;
+pub const IQ_SAMPLES: usize = 14;
 
-const IQ_PAYLOAD: usize = 16;
+pub const IQ_PAYLOAD: usize = 16;
 
 pub enum IqAnswer {
     Accepted(u32),

@@ -5,11 +5,11 @@ ghost use Rattle.sending.specs.Progress.{Sends, HasRoom};
 use attenuator::AttenuationStep;
 use attenuator::Stepped;
 use double::time::since;
-use model::command::Stream;
 use model::session::Attenuation;
 use model::session::Attenuator;
 use sending::send::Progress;
 use sending::send::send;
+use wire::command::Stream;
 
 // The keepalives' intervals, in nanoseconds.
 const HIGH_PRIORITY_EVERY: u64 = 100_000_000;

@@ -16,11 +16,12 @@ use Rattle.attenuator.specs.declared.AttenuationStep.{AttenuationStep}
 use Rattle.attenuator.specs.declared.Stepped.{Stepped}
 use Rattle.attenuator.specs.declared.AttenuationStep.the-variants as step
 use Rattle.attenuator.specs.Controller as Controller
+use Rattle.wire.specs.Command.{sizeOf}
 use Rattle.wire.specs.Status.{overloaded}
 use Rattle.model.specs.Routing.{Routed, iq, status, ignored, malformed}
 use Rattle.model.specs.Host.{Incoming, Call, Begin, Pass, Arrival, Take, Close, TakeMissing, TakeDiscontinuity, TakeStalled, Step}
 use Rattle.model.specs.State.{State, left, keeping}
-use Rattle.model.specs.Sending.{Sending, idle, then, sizeOf, packetOf, send, sendHigh, sendRxTx, sendGeneral, highIfDue, rxTxIfDue, generalIfDue, keepalive, applied, stepped, tick, duePackets, stopPackets}
+use Rattle.model.specs.Sending.{Sending, idle, then, packetOf, send, sendHigh, sendRxTx, sendGeneral, highIfDue, rxTxIfDue, generalIfDue, keepalive, applied, stepped, tick, duePackets, stopPackets}
 use Rattle.model.specs.Begin.{begin}
 use Rattle.model.specs.Pass.{stallSoft, stallHard, passed, pass}
 use Rattle.model.specs.Arrival.{hear, heardAs, heardIq, overload, heardStatus, heardMalformed, arrived, arrival}
@@ -30,8 +31,8 @@ use Rattle.model.specs.Drain.{takeMissing, takeDiscontinuity, takeStalle
 use Rattle.model.specs.Session as Session
 use Rattle.model.specs.Refusals.{lentPackets, lentBuffer}
 use Rattle.model.specs.Room.{Roomy}
-use Rattle.model.specs.declared.command.Stream.{Stream}
-use Rattle.model.specs.declared.command.Stream.the-variants.{General, RxSpecific, TxSpecific, HighPriority}
+use Rattle.wire.specs.declared.command.Stream.{Stream}
+use Rattle.wire.specs.declared.command.Stream.the-variants.{General, RxSpecific, TxSpecific, HighPriority}
 use Rattle.model.specs.declared.session.Attenuation.{Attenuation}
 use Rattle.model.specs.declared.session.Attenuation.the-variants.{Off, On}
 use Rattle.model.specs.declared.session.Common.{Common}

@@ -16,9 +16,10 @@ use Rattle.tuning.specs.Centre.{wholeCentre}
 use Rattle.tuning.specs.Rate.{isRate, khzOf}
 use Rattle.model.specs.Table.{settingsRows, refusalIn}
 use Rattle.model.specs.Settings.{settingsTold, isGiven, accepts, Tunable, Plain}
-use Rattle.model.specs.Command.{offsetOf, destinationOf}
-use Rattle.model.specs.declared.command.Stream.{Stream}
-use Rattle.model.specs.declared.command.Stream.the-variants.{General, RxSpecific, TxSpecific, HighPriority}
+use Rattle.wire.specs.Command.{offsetOf}
+use Rattle.model.specs.Command.{destinationOf}
+use Rattle.wire.specs.declared.command.Stream.{Stream}
+use Rattle.wire.specs.declared.command.Stream.the-variants.{General, RxSpecific, TxSpecific, HighPriority}
 use Rattle.model.specs.declared.settings.Settings.{Settings}
 use Rattle.model.proofs.Refusals.{settings-refused-by}
 

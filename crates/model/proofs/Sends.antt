@@ -12,8 +12,8 @@ use Rattle.model.specs.Sending.{Sending, idle, then, raised, send, sendH
 use mathlib.Core.List.{List, [], _∷_, _++_}
 use Rattle.model.specs.Parts.{with-attenuator}
 use Rattle.model.specs.Leaves.{sentFrom, countsAfter}
-use Rattle.model.specs.declared.command.Stream.{Stream}
-use Rattle.model.specs.declared.command.Stream.the-variants.{HighPriority}
+use Rattle.wire.specs.declared.command.Stream.{Stream}
+use Rattle.wire.specs.declared.command.Stream.the-variants.{HighPriority}
 use Rattle.model.specs.declared.session.Attenuation.{Attenuation}
 use Rattle.model.specs.declared.session.Attenuation.the-variants.{Off, On}
 use Rattle.model.specs.declared.session.Common.{Common}

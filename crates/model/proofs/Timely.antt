@@ -46,7 +46,7 @@ use Rattle.model.proofs.Due.{due-is, stepped-steps}
 
 -- ---- the watch of a session: all but the read's anchor, which a closed read has lost
 
-abbrev watchOf : ℕ → State → Watch
+abbrev pub watchOf : ℕ → State → Watch
 watchOf anchor st =
     let c = st .session .common in
     let r = st .session .receiver in
@@ -68,21 +68,21 @@ sendingWatch w k x =
 sending-same : (w : Watch) {k l : Clocks} {x y : Attenuation} → k ≡ l → x ≡ y → sendingWatch w k x ≡ sendingWatch w l y
 sending-same w p q = rw (p, q) refl
 
-abbrev Anchored : ℕ → State → Type 0
+abbrev pub Anchored : ℕ → State → Type 0
 Anchored anchor st = isOpen (st .session .receiver) ≡ true → orZero (st .session .receiver .reading .entered) ≡ anchor
 
 -- what a call gave: the watch after it is that of the session after it, and it was on time
-record Fine (s : Settings) (w : Watch) (c : Call) (x : Step State) : Type 0 where
+pub record Fine (s : Settings) (w : Watch) (c : Call) (x : Step State) : Type 0 where
   pub anchor : ℕ
   pub next : watched s w c (tells (x .reply .answer)) ≡ watchOf anchor (x .state)
   pub anchored : Anchored anchor (x .state)
   pub ontime : OnTime s w c (x .reply)
 
 module _ (st : State) (a : ℕ) (h : Anchored a st) where
-  abbrev set : Settings
+  abbrev pub set : Settings
   set = st .session .common .settings
 
-  abbrev w : Watch
+  abbrev pub w : Watch
   w = watchOf a st
 
   refused-fine : (c : Call) (k : ℕ) → Fine set w c (refusal st c k)
@@ -131,7 +131,7 @@ module _ (st : State) (a : ℕ) (h : Anchored a st) where
   -- ---- Pass
 
   module _ (now : ℕ) (d : List ℕ) (reads : isOpen (st .session .receiver) ≡ true) where
-    abbrev at : Session
+    abbrev pub at : Session
     at = atReading (st .session) now
 
     quiet-is : quietSince (at .receiver) ≡ max (w .valid) (w .anchor)
@@ -151,28 +151,28 @@ module _ (st : State) (a : ℕ) (h : Anchored a st) where
 
     -- which of the four it is
     module _ {A : Type 0} (x y z u : A) where
-      is-waits : waits (at .receiver) ≡ true → byPass set w now x y z u ≡ x
+      pub is-waits : waits (at .receiver) ≡ true → byPass set w now x y z u ≡ x
       is-waits e = pick-t _ _ _ (sym waits-is ∙ e)
 
       module _ (e : waits (at .receiver) ≡ false) where
-        is-soft : isDue (at .receiver .stall) (quietSince (at .receiver)) now (set .«soft_after») (set .«stall_after») ≡ true → byPass set w now x y z u ≡ y
+        pub is-soft : isDue (at .receiver .stall) (quietSince (at .receiver)) now (set .«soft_after») (set .«stall_after») ≡ true → byPass set w now x y z u ≡ y
         is-soft f = pick-f _ _ _ (sym waits-is ∙ e) ∙ pick-t _ _ _ (sym soft-is ∙ f)
 
         module _ (f : isDue (at .receiver .stall) (quietSince (at .receiver)) now (set .«soft_after») (set .«stall_after») ≡ false) where
-          is-hard : leb (set .«stall_after») (now - quietSince (at .receiver)) ≡ true → byPass set w now x y z u ≡ z
+          pub is-hard : leb (set .«stall_after») (now - quietSince (at .receiver)) ≡ true → byPass set w now x y z u ≡ z
           is-hard g = pick-f _ _ _ (sym waits-is ∙ e) ∙ pick-f _ _ _ (sym soft-is ∙ f) ∙ pick-t _ _ _ (sym hard-is ∙ g)
 
-          is-sent : leb (set .«stall_after») (now - quietSince (at .receiver)) ≡ false → byPass set w now x y z u ≡ u
+          pub is-sent : leb (set .«stall_after») (now - quietSince (at .receiver)) ≡ false → byPass set w now x y z u ≡ u
           is-sent g = pick-f _ _ _ (sym waits-is ∙ e) ∙ pick-f _ _ _ (sym soft-is ∙ f) ∙ pick-f _ _ _ (sym hard-is ∙ g)
 
     abbrev Passes : Step Session → Type 0
     Passes x = Fine set w (Pass now d) (keeping (st .samples) x)
 
     -- each of the four, where it is the one
-    abbrev softTest : Bool
+    abbrev pub softTest : Bool
     softTest = isDue (at .receiver .stall) (quietSince (at .receiver)) now (set .«soft_after») (set .«stall_after»)
 
-    abbrev hardTest : Bool
+    abbrev pub hardTest : Bool
     hardTest = leb (set .«stall_after») (now - quietSince (at .receiver))
 
     waits-fine : waits (at .receiver) ≡ true → Passes (replied (done ready) [] d [] at)
@@ -227,7 +227,7 @@ module _ (st : State) (a : ℕ) (h : Anchored a st) where
   -- ---- Arrival, by what the datagram is
 
   module _ (i : Incoming) (d : List ℕ) where
-    abbrev then : State
+    abbrev pub then : State
     then = atLater st (i .later)
 
     -- as Fine, of an arrival that is routed so
@@ -297,7 +297,7 @@ module _ (st : State) (a : ℕ) (h : Anchored a st) where
   -- ---- every call
 
   -- 10 does not apply: a read is open
-  open-read : (closed reads : Bool) → (closed || not reads) ≡ false → reads ≡ true
+  pub open-read : (closed reads : Bool) → (closed || not reads) ≡ false → reads ≡ true
   open-read true reads e = let z : _≡_ {A = ℕ} 0 1 = cc in absurd (omega arith)
   open-read false true e = refl
   open-read false false e = let z : _≡_ {A = ℕ} 0 1 = cc in absurd (omega arith)
@@ -312,7 +312,7 @@ module _ (st : State) (a : ℕ) (h : Anchored a st) where
   answered-fine TakeDiscontinuity n = discontinuity-fine
   answered-fine TakeStalled n = stalled-fine
 
-  step-fine : (c : Call) → Fine set w c (step st c)
+  pub step-fine : (c : Call) → Fine set w c (step st c)
   step-fine c = step-either (Fine set w c) st c (refused-fine c) (answered-fine c)
 
 -- ---- over a list

@@ -11,12 +11,12 @@ use Rattle.attenuator.specs.Controller.{ticked}
 use Rattle.attenuator.specs.declared.AttenuationStep.{AttenuationStep}
 use Rattle.attenuator.specs.declared.AttenuationStep.the-variants as step
 use Rattle.attenuator.specs.declared.Stepped.{Stepped}
-use Rattle.model.specs.declared.command.Stream.{Stream}
-use Rattle.model.specs.declared.command.Stream.the-variants.{General, RxSpecific, TxSpecific, HighPriority}
+use Rattle.wire.specs.declared.command.Stream.{Stream}
+use Rattle.wire.specs.declared.command.Stream.the-variants.{General, RxSpecific, TxSpecific, HighPriority}
 use Rattle.model.specs.declared.session.Attenuation.{Attenuation}
 use Rattle.model.specs.declared.session.Attenuation.the-variants.{Off, On}
 use Rattle.model.specs.declared.session.Common.{Common}
-use Rattle.model.specs.Command.{offsetOf}
+use Rattle.wire.specs.Command.{offsetOf}
 use Rattle.model.specs.Parts.{with-high-priority, with-rx-tx-specific, with-general, with-seq, with-clocks, with-attenuator, with-common}
 use Rattle.model.specs.Answer.{Answer}
 use Rattle.model.specs.Host.{Step}
@@ -41,13 +41,6 @@ then s f =
 abbrev pub level : Attenuation → ℕ
 level Off = 0
 level (On controller) = controller .db
-
--- the octets of a stream's packet
-abbrev pub sizeOf : Stream → ℕ
-sizeOf General = 60
-sizeOf RxSpecific = 1444
-sizeOf TxSpecific = 60
-sizeOf HighPriority = 1444
 
 -- a stream's next count
 abbrev pub countOf : Stream → Common → ℕ

@@ -16,7 +16,7 @@ use Rattle.attenuator.specs.declared.AttenuationStep.{AttenuationStep}
 use Rattle.attenuator.specs.declared.AttenuationStep.the-variants.{NoStep, Step}
 use Rattle.attenuator.specs.declared.Stepped.{Stepped}
 use Rattle.model.specs.Answer.{Word, ready, softStall, hardStall, sent, done, Tells, tells}
-use Rattle.model.specs.Command.{offsetOf}
+use Rattle.wire.specs.Command.{offsetOf}
 use Rattle.model.specs.Rules.{isStale}
 use Rattle.model.specs.Routing.{Routed, iq, status, ignored, malformed, routed}
 use Rattle.model.specs.Settings.{accepts, attenuates}
@@ -25,7 +25,7 @@ use Rattle.model.specs.State.{orZero}
 use Rattle.model.specs.Sending.{highEvery, rxTxEvery, generalEvery}
 use Rattle.model.specs.Begin.{orAt}
 use Rattle.model.specs.Open.{attenuationAt}
-use Rattle.model.specs.declared.command.Stream.the-variants.{General, RxSpecific, TxSpecific, HighPriority}
+use Rattle.wire.specs.declared.command.Stream.the-variants.{General, RxSpecific, TxSpecific, HighPriority}
 use Rattle.model.specs.declared.receiver.Anchor.{Anchor}
 use Rattle.model.specs.declared.receiver.Anchor.the-variants.{Unset}
 use Rattle.model.specs.declared.session.Attenuation.{Attenuation}

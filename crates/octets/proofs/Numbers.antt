@@ -2,9 +2,9 @@
 use Prim.Native.Nat.{ℕ, zero, suc, _+_, _*_, _/_, _%_, _^_, _≤_, _<_}
 use mathlib.Core.Path.{_≡_, refl, sym, ap, _∙_}
 use mathlib.Core.Logic.{_⊎_, inl, inr, ⊎-elim}
-use mathlib.Core.List.{List, [], _∷_}
-use lib.ListN.{length, getD, take, drop}
-use lib.Seq.{drop-cons}
+use mathlib.Core.List.{List, [], _∷_, _++_}
+use lib.ListN.{length, getD, take, drop, List·getD-append}
+use lib.Seq.{drop-cons, getD-append-add}
 use lib.Arith.{digits-lt, digits-div, mod-mul}
 use native.Mathlib.Nat.{add-zero, zero-add, div-one, mod-one, mod-eq-of-lt, pow-succ', mul-assoc, mul-add-div-right, mul-add-mod-self-right, zero-lt-suc, one-le-pow}
 use native.Mathlib.Numerals.{add-one, one-add}
@@ -55,6 +55,10 @@ reads-from (suc w) l at k =
 pub reads-be : (w : ℕ) (l : List ℕ) (at : ℕ) → beAt (suc w) l at ≡ getD l at 0 * 256 ^ w + readsFrom w l at 1
 reads-be w l at = ap (λ (n : ℕ). getD l at 0 * 256 ^ w + n) (reads-from w l at 1)
 
+-- one octet
+pub beAt-one : (l : List ℕ) (at : ℕ) → beAt 1 l at ≡ getD l at 0
+beAt-one l at = omega arith
+
 -- ---- a number read is that of the octets at its places
 
 pub beAt-ext : (w : ℕ) (l m : List ℕ) (i j : ℕ) → ((k : ℕ) → k < w → getD l (i + k) 0 ≡ getD m (j + k) 0) → beAt w l i ≡ beAt w m j
@@ -66,13 +70,25 @@ beAt-ext (suc w) l m i j h =
     on : (n k : ℕ) → n + 1 + k ≡ n + suc k
     on n k = omega arith
 
+-- in the front of a list, and behind it
+pub beAt-front : (w : ℕ) (a b : List ℕ) (at : ℕ) → at + w ≤ length a → beAt w (a ++ b) at ≡ beAt w a at
+beAt-front w a b at h = beAt-ext w (a ++ b) a at at (λ k l. List·getD-append a b 0 (at + k) (omega arith))
+
+pub beAt-behind : (w : ℕ) (a b : List ℕ) (n at : ℕ) → length a ≡ n → beAt w (a ++ b) (n + at) ≡ beAt w b at
+beAt-behind w a b n at e =
+    beAt-ext w (a ++ b) b (n + at) at
+    (λ k l. ap (λ (j : ℕ). getD (a ++ b) j 0) (over k) ∙ getD-append-add a b (at + k) 0)
+  where
+    over : (k : ℕ) → n + at + k ≡ length a + (at + k)
+    over k = omega arith
+
 pub read-other : (w : ℕ) (d : List ℕ) (at : ℕ) (out : List ℕ) (i : ℕ) → at + length out ≤ length d → (i + w ≤ at) ⊎ (at + length out ≤ i)
     → beAt w (written d at out) i ≡ beAt w d i
 read-other w d at out i h o =
     beAt-ext w (written d at out) d i i
     (λ k l. getD-written-out d at out (i + k) 0 h (⊎-elim (λ b. inl (omega arith)) (λ b. inr (omega arith)) o))
 
-beAt-be : (w v : ℕ) → beAt w (be w v) 0 ≡ v % 256 ^ w
+pub beAt-be : (w v : ℕ) → beAt w (be w v) 0 ≡ v % 256 ^ w
 beAt-be zero v = sym (mod-one v)
 beAt-be (suc w) v =
     ap (λ (n : ℕ). v / 256 ^ w % 256 * 256 ^ w + n) (beAt-ext w (be (suc w) v) (be w v) 1 0 (λ k l. rw (one-add, zero-add)) ∙ beAt-be w v)

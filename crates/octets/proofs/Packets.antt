@@ -23,7 +23,7 @@ pub length-zeros : (n : ℕ) → length (zeros n) ≡ n
 unfolding zeros
 length-zeros n = length-replicate n 0
 
-getD-zeros : (n i : ℕ) → i < n → getD (zeros n) i 0 ≡ 0
+pub getD-zeros : (n i : ℕ) → i < n → getD (zeros n) i 0 ≡ 0
 unfolding zeros
 getD-zeros n i h = getD-replicate n i 0 0 h
 
@@ -42,25 +42,25 @@ zeros-more n d h =
 
 -- ---- what the tests of the fields' places say
 
-either : (a b : Bool) → T (a || b) → T a ⊎ T b
+pub either : (a b : Bool) → T (a || b) → T a ⊎ T b
 either true b t = inl t
 either false b t = inr t
 
 -- the buffer after one field
-abbrev withField : Field → List ℕ → List ℕ
+abbrev pub withField : Field → List ℕ → List ℕ
 withField f l = written l (f .at) (be (f .width) (f .value))
 
 module _ (f : Field) (fs : List Field) where
-  others : (n : ℕ) → T (within n (f ∷ fs)) → T (within n fs)
+  pub others : (n : ℕ) → T (within n (f ∷ fs)) → T (within n fs)
   others n t = and-r (leb (f .at + f .width) n) (within n fs) t
 
-  fits : (n : ℕ) → T (within n (f ∷ fs)) → f .at + f .width ≤ n
+  pub fits : (n : ℕ) → T (within n (f ∷ fs)) → f .at + f .width ≤ n
   fits n t = leb→le (f .at + f .width) n (and-l (leb (f .at + f .width) n) (within n fs) t)
 
-  fits-be : (n : ℕ) (l : List ℕ) → length l ≡ n → T (within n (f ∷ fs)) → f .at + length (be (f .width) (f .value)) ≤ length l
+  pub fits-be : (n : ℕ) (l : List ℕ) → length l ≡ n → T (within n (f ∷ fs)) → f .at + length (be (f .width) (f .value)) ≤ length l
   fits-be n l e t = omega (arith, fits n t, length-be (f .width) (f .value))
 
-  kept : (n : ℕ) (l : List ℕ) → length l ≡ n → T (within n (f ∷ fs)) → length (withField f l) ≡ n
+  pub kept : (n : ℕ) (l : List ℕ) → length l ≡ n → T (within n (f ∷ fs)) → length (withField f l) ≡ n
   kept n l e t = length-written l (f .at) (be (f .width) (f .value)) (fits-be n l e t) ∙ e
 
 -- ---- fields of one octet, as code stores them
@@ -110,7 +110,7 @@ packet-front n fs d t =
 -- ---- what is read back
 
 -- octets that no field touches are as they were
-stored-outside : (fs : List Field) (n : ℕ) (l : List ℕ) (i w k : ℕ) → length l ≡ n → T (within n fs) → T (outside i w fs) → k < w
+pub stored-outside : (fs : List Field) (n : ℕ) (l : List ℕ) (i w k : ℕ) → length l ≡ n → T (within n fs) → T (outside i w fs) → k < w
     → getD (stored fs l) (i + k) 0 ≡ getD l (i + k) 0
 stored-outside [] n l i w k e t o h = refl
 stored-outside (f ∷ fs) n l i w k e t o h =
@@ -145,7 +145,7 @@ unfolding packet
 read-back n fs t a = read-stored fs n (zeros n) (length-zeros n) t a
 
 -- what follows of a field from two facts follows of each
-each-both : {P Q R : Field → Type 0} → ((f : Field) → P f → Q f → R f) → (fs : List Field) → Each P fs → Each Q fs → Each R fs
+pub each-both : {P Q R : Field → Type 0} → ((f : Field) → P f → Q f → R f) → (fs : List Field) → Each P fs → Each Q fs → Each R fs
 each-both h [] p q = tt
 each-both h (f ∷ fs) p q = (h f (p .0) (q .0), each-both h fs (p .1) (q .1))
 

@@ -4,7 +4,7 @@ use mathlib.Core.Path.{_≡_, sym, ap, _∙_}
 use mathlib.Core.Logic.{_⊎_, inl, inr, ⊎-elim}
 use mathlib.Core.List.{List, [], _∷_, _++_, append-assoc, append-nil}
 use lib.ListN.{length, getD, set, take, drop, length-append, length-drop, length-set, take-append-drop, drop-of-length-le}
-use lib.Seq.{take-all, take-suc-set, drop-set-lt, drop-drop, set-append-left, getD-set-same, getD-set-other}
+use lib.Seq.{take-all, take-suc, length-take-le, take-suc-set, drop-set-lt, drop-drop, set-append-left, getD-set-same, getD-set-other}
 use native.Mathlib.Nat.{add-zero, zero-add, div-one, mod-eq-of-lt}
 use native.Mathlib.Numerals.{add-one}
 use native.Mathlib.Omega.{arith}
@@ -54,6 +54,18 @@ module _ {A : Type 0} where
       ∙ ap (λ (k : ℕ). written (written (set d at x) (at + 1) a) k b) e
       ∙ written-then (set d at x) (at + 1) a b (rest d at x (length a + length b) (omega arith))
       ∙ sym (written-cons d at x (a ++ b) (omega arith))
+
+  -- a copying loop, one turn more
+  pub written-more : (d : List A) (at : ℕ) (s : List A) (i : ℕ) (z : A) → at + i < length d → i < length s
+      → set (written d at (take i s)) (at + i) (getD s i z) ≡ written d at (take (i + 1) s)
+  written-more d at s i z h l =
+      let a = take i s in
+      let n : length a ≡ i = length-take-le i s (omega arith) in
+      set-written (written d at a) (at + i) (getD s i z) (omega (arith, length-written d at a (omega arith)))
+      ∙ ap (λ (k : ℕ). written (written d at a) (at + k) (getD s i z ∷ [])) (sym n)
+      ∙ written-then d at a (getD s i z ∷ []) (omega arith)
+      ∙ ap (written d at) (sym (take-suc s i z l))
+      ∙ ap (λ (k : ℕ). written d at (take k s)) (sym (add-one i))
 
   -- a place that the writer does not name
   pub getD-written-out : (d : List A) (at : ℕ) (out : List A) (i : ℕ) (z : A) → at + length out ≤ length d → (i < at) ⊎ (at + length out ≤ i)

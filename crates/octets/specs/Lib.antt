@@ -3,3 +3,4 @@ pub mod Table
 pub mod Written
 pub mod Number
 pub mod Packet
+pub mod Order

@@ -1,8 +1,9 @@
 -- A packet: octets of 0 with named fields stored in them. Definitions only.
-use Prim.Native.Nat.{ℕ, _+_}
+use Prim.Native.Nat.{ℕ, _+_, _≤_, _<_}
 use mathlib.Core.List.{List, [], _∷_}
+use mathlib.Core.Path.{_≡_}
 use mathlib.Core.Bool.{Bool, true, _&&_, _||_}
-use lib.ListN.{replicate}
+use lib.ListN.{replicate, getD}
 use lib.Dec.{leb}
 use Rattle.octets.specs.Written.{written}
 use Rattle.octets.specs.Number.{be}
@@ -10,6 +11,10 @@ use Rattle.octets.specs.Number.{be}
 -- n octets of 0
 unfoldable pub zeros : ℕ → List ℕ
 zeros n = replicate n 0
+
+-- the octets of p from a place up to another are 0
+abbrev pub Zero : List ℕ → ℕ → ℕ → Type 0
+Zero p from to = (i : ℕ) → from ≤ i → i < to → getD p i 0 ≡ 0
 
 -- a big-endian number of so many octets, and its place
 pub record Field : Type 0 where

@@ -1,11 +1,12 @@
 // Numbers, big-endian, and runs of zeros in a lent buffer. A place and its width have been tested by the
 // caller against the buffer's length; a writer leaves every other place as it was.
 ghost use mathlib.Core.Path.{_≡_};
+ghost use mathlib.Core.Bool.{true};
 ghost use Prim.Native.Nat.{_+_, _≤_, _<_};
 ghost use lib.ListN.{length};
 ghost use Rattle.octets.specs.Written.{written};
 ghost use Rattle.octets.specs.Number.{be, beAt};
-ghost use Rattle.octets.specs.Packet.{zeros};
+ghost use Rattle.octets.specs.Packet.{zeros, Zero};
 
 fn wide(x: u8) -> u32
     ensures { λ r. ⌜ (r ≡ x) × (r < 256) ⌝ }
@@ -71,4 +72,19 @@ pub fn clear(p: &mut [u8], n: usize)
         p[i] = 0;
         i += 1;
     }
+}
+
+// Whether the octets from a place up to another are all 0.
+pub fn is_zero(p: &[u8], from: usize, to: usize) -> bool
+    requires { ⌜ to ≤ length (now p) ⌝ }
+    ensures { λ r. ⌜ (r ≡ true → Zero (now (p .entry)) from to) × (Zero (now (p .entry)) from to → r ≡ true) ⌝ }
+{
+    let mut i = from;
+    while i < to {
+        if p[i] != 0 {
+            return false;
+        }
+        i += 1;
+    }
+    true
 }

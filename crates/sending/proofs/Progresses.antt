@@ -13,12 +13,13 @@ use Rattle.wire.specs.Packet.{highPacket, Sent}
 use Rattle.wire.specs.declared.packet.PacketAnswer.{PacketAnswer}
 use Rattle.octets.specs.Written.{written, Put}
 use Rattle.octets.proofs.Puts.{put-none, put-then, put-part}
-use Rattle.model.specs.Sending.{Sending, idle, then, sizeOf, packetOf, send}
-use Rattle.model.specs.Command.{offsetOf, streamsAs}
+use Rattle.model.specs.Sending.{Sending, idle, then, packetOf, send}
+use Rattle.wire.specs.Command.{offsetOf, sizeOf}
+use Rattle.model.specs.Command.{streamsAs}
 use Rattle.model.proofs.Room.{Within, packet-size}
 use Rattle.model.specs.Parts.{with-seq}
-use Rattle.model.specs.declared.command.Stream.{Stream}
-use Rattle.model.specs.declared.command.Stream.the-variants.{General, RxSpecific, TxSpecific, HighPriority}
+use Rattle.wire.specs.declared.command.Stream.{Stream}
+use Rattle.wire.specs.declared.command.Stream.the-variants.{General, RxSpecific, TxSpecific, HighPriority}
 use Rattle.model.specs.declared.command.Streams.{Streams}
 use Rattle.model.specs.declared.session.Common.{Common}
 use Rattle.sending.specs.Progress.{appended, listing, started, HasRoom, Sends}

@@ -6,11 +6,12 @@ ghost use Rattle.octets.specs.Written.{Put};
 ghost use mathlib.Core.List.{[]};
 ghost use Rattle.model.specs.Sending as Sending;
 ghost use Rattle.model.specs.Command.{streamsAs};
+ghost use Rattle.wire.specs.Command.{sizeOf};
 ghost use Rattle.sending.specs.Progress.{appended, started, Sends, HasRoom};
-use model::command::Stream;
 use model::command::Streams;
 use model::session::Attenuation;
 use model::session::Common;
+use wire::command::Stream;
 use wire::packet::GENERAL_LEN;
 use wire::packet::HIGH_PRIORITY_LEN;
 use wire::packet::RX_SPECIFIC_LEN;
@@ -63,7 +64,7 @@ pub fn level(c: Common) -> u8
 
 // The next packet of a stream, at the front of `out`; its length. `run` matters for high priority alone.
 fn put_packet(c: Common, stream: Stream, run: bool, out: &mut [u8]) -> usize
-    requires { ⌜ Sending.sizeOf stream ≤ length (now out) ⌝ }
+    requires { ⌜ sizeOf stream ≤ length (now out) ⌝ }
     ensures { λ r. ⌜ Put (now (out .entry)) 0 (Sending.packetOf stream run c) r (now (out .exit)) ⌝ }
 {
     let board = c.settings.board;
@@ -111,7 +112,7 @@ fn list(streams: Streams, offset: u8) -> Streams
 
 // Writes the next packet of a stream from the current end of the buffer on, and raises that stream's count.
 pub fn send(p: Progress, stream: Stream, run: bool, packets: &mut [u8]) -> Progress
-    requires { ⌜ HasRoom (Sending.sizeOf stream) 1 p (length (now packets)) ⌝ }
+    requires { ⌜ HasRoom (sizeOf stream) 1 p (length (now packets)) ⌝ }
     ensures { λ r. ⌜ Sends (Sending.send stream run (p .common)) p (now (packets .entry)) r (now (packets .exit)) ⌝ }
 {
     let end = p.end;

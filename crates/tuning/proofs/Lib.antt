@@ -6,3 +6,4 @@ pub mod Phases
 pub mod Centres
 pub mod Rates
 pub mod Edges
+pub mod Widths

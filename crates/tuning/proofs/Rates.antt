@@ -10,15 +10,17 @@ use lib.ListN.{length, getD, List·getD-eq-default}
 use lib.Dec.{T, ltb, leb, ltb→lt, leb→le, lit≤}
 use lib.IntN.{pos}
 use lib.Ieee.{Float, fin, binary64, ofInt, mul, eq}
+use lib.Ieee.Bits.{is-true}
 use lib.Ieee.Fits.{and-l, and-r}
 use lib.Ieee.Exact.{HasValue}
 use lib.Ieee.Back.{round-whole}
 use Rattle.base.proofs.Picks.{pick-t, pick-f, pick-either}
 use Rattle.double.proofs.Values.{mul-whole, value-of-eq}
+use Rattle.base.specs.Pick.{pick}
 use Rattle.base.specs.Told.{Told, gives, refused}
 use Rattle.base.specs.Search.{first}
-use Rattle.tuning.specs.Rate.{rates, isKhz, rateAt, isRate, khzOf, rateTold}
-use Rattle.base.proofs.Searches.{first-holds, every-at}
+use Rattle.tuning.specs.Rate.{rates, isKhz, rateAt, isRate, khzOf, isRateKhz, rateTold}
+use Rattle.base.proofs.Searches.{every, first-holds, every-at}
 
 -- ---- the entries: above 0, and none above 384
 listed : ℕ → Bool
@@ -40,6 +42,19 @@ most-khz i h = leb→le (getD rates i 0) 384 (and-r (ltb 0 (getD rates i 0)) (le
 pub tested : (x : Float) (i : ℕ) → i < length rates → eq (mul binary64 (ofInt binary64 (pos (getD rates i 0))) (fin false 125 (pos 3))) x ≡ isKhz x (getD rates i 0)
 unfolding ofInt
 tested x i h = ap (λ (y : Float). eq y x) (mul-whole binary64 (getD rates i 0) 1000 (le-trans (most-khz i h) (lit≤ tt)) (lit≤ tt))
+
+-- ---- a receive packet's field: so many kHz, as the code tests them
+
+pub field-tested : (khz : ℕ) → khz < 65536 → isRate (mul binary64 (ofInt binary64 (pos khz)) (fin false 125 (pos 3))) ≡ isRateKhz khz
+unfolding isRateKhz ofInt
+field-tested khz h = ap isRate (mul-whole binary64 khz 1000 (le-trans (small khz h) (lit≤ tt)) (lit≤ tt))
+  where
+    small : (k : ℕ) → k < 65536 → k ≤ 65536
+    small k h = omega arith
+
+all-fields : T (every isRateKhz rates)
+unfolding isRateKhz isRate rateAt first pick ofInt eq
+all-fields = tt
 
 -- ---- the answers
 
@@ -86,3 +101,8 @@ module _ (x : Float) (t : T (isRate x)) where
     where
       few : (k : ℕ) → k ≤ 384 → k * 1000 ≤ 9007199254740992
       few k h = omega arith
+
+  -- what is written for it is accepted where it is read
+  pub khz-again : isRateKhz (khzOf x) ≡ true
+  unfolding khzOf
+  khz-again = is-true (isRateKhz (khzOf x)) (every-at isRateKhz rates 0 all-fields (rateAt x) within)

@@ -39,22 +39,34 @@ abbrev pub lowPassBypass : ℕ
 lowPassBypass = 0x20000000
 
 -- high-pass: the bypass, then 1.5, 6.5, 9.5, 13 and 20 MHz; past the last, the 6 m preamp
+abbrev pub hpfLimits : List Float
+hpfLimits = hz (1800000 ∷ 6500000 ∷ 9500000 ∷ 13000000 ∷ 20000000 ∷ 50000000 ∷ [])
+
+abbrev pub hpfBits : List ℕ
+hpfBits = bypass ∷ 0x40 ∷ 0x20 ∷ 0x10 ∷ 0x02 ∷ 0x04 ∷ 0x08 ∷ []
+
 unfoldable pub hpfOf : Float → ℕ
-hpfOf f =
-    ladderOf rising (hz (1800000 ∷ 6500000 ∷ 9500000 ∷ 13000000 ∷ 20000000 ∷ 50000000 ∷ []))
-    (bypass ∷ 0x40 ∷ 0x20 ∷ 0x10 ∷ 0x02 ∷ 0x04 ∷ 0x08 ∷ []) f
+hpfOf f = ladderOf rising hpfLimits hpfBits f
 
 -- low-pass: 6 m, which is the bypass too, then 12/10, 17/15, 30/20, 60/40 and 80 m; past the last, 160 m
+abbrev pub lpfLimits : List Float
+lpfLimits = hz (35600000 ∷ 24000000 ∷ 16500000 ∷ 8000000 ∷ 5000000 ∷ 2500000 ∷ [])
+
+abbrev pub lpfBits : List ℕ
+lpfBits = lowPassBypass ∷ 0x40000000 ∷ 0x80000000 ∷ 0x00100000 ∷ 0x00200000 ∷ 0x00400000 ∷ 0x00800000 ∷ []
+
 unfoldable pub lpfOf : Float → ℕ
-lpfOf f =
-    ladderOf falling (hz (35600000 ∷ 24000000 ∷ 16500000 ∷ 8000000 ∷ 5000000 ∷ 2500000 ∷ []))
-    (lowPassBypass ∷ 0x40000000 ∷ 0x80000000 ∷ 0x00100000 ∷ 0x00200000 ∷ 0x00400000 ∷ 0x00800000 ∷ []) f
+lpfOf f = ladderOf falling lpfLimits lpfBits f
 
 -- band-pass: the bypass, then 160, 80/60, 40/30, 20/15 and 12/10 m; past the last, 6 m
+abbrev pub bpfLimits : List Float
+bpfLimits = hz (1500000 ∷ 2100000 ∷ 5500000 ∷ 11000000 ∷ 22000000 ∷ 35000000 ∷ [])
+
+abbrev pub bpfBits : List ℕ
+bpfBits = bypass ∷ 0x40 ∷ 0x20 ∷ 0x10 ∷ 0x02 ∷ 0x04 ∷ 0x08 ∷ []
+
 unfoldable pub bpfOf : Float → ℕ
-bpfOf f =
-    ladderOf rising (hz (1500000 ∷ 2100000 ∷ 5500000 ∷ 11000000 ∷ 22000000 ∷ 35000000 ∷ []))
-    (bypass ∷ 0x40 ∷ 0x20 ∷ 0x10 ∷ 0x02 ∷ 0x04 ∷ 0x08 ∷ []) f
+bpfOf f = ladderOf rising bpfLimits bpfBits f
 
 abbrev pub words : ℕ → ℕ → AlexWords
 words a0 a1 = record { alex0 = a0; alex1 = a1 }

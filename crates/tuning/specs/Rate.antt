@@ -31,6 +31,10 @@ isRate x = ltb (rateAt x) (length rates)
 unfoldable pub khzOf : Float → ℕ
 khzOf x = getD rates (rateAt x) 0
 
+-- whether so many kHz, as a receive packet writes them, are an accepted rate
+unfoldable pub isRateKhz : ℕ → Bool
+isRateKhz khz = isRate (ofInt binary64 (pos (khz * 1000)))
+
 unfoldable pub rateTold : Float → Told
 rateTold x = pick (isRate x) (gives (khzOf x ∷ [])) (refused 3 [])
 

@@ -21,45 +21,45 @@ pub const HIGH_PRIORITY_LEN: usize = 1444;
 // The step attenuator's range.
 pub const MAX_STEP_ATTENUATION_DB: u8 = 31;
 
-const SEQ_OFFSET: usize = 0;
+pub const SEQ_OFFSET: usize = 0;
 
-const GENERAL_FREQ_MODE: usize = 37;
+pub const GENERAL_FREQ_MODE: usize = 37;
 
-const GENERAL_FREQ_MODE_PHASE_WORDS: u8 = 0x08;
+pub const GENERAL_FREQ_MODE_PHASE_WORDS: u8 = 0x08;
 
-const GENERAL_WATCHDOG: usize = 38;
+pub const GENERAL_WATCHDOG: usize = 38;
 
-const GENERAL_WATCHDOG_ON: u8 = 0x01;
+pub const GENERAL_WATCHDOG_ON: u8 = 0x01;
 
-const GENERAL_FILTER_ENABLE: usize = 59;
+pub const GENERAL_FILTER_ENABLE: usize = 59;
 
-const RX_ADC_COUNT: usize = 4;
+pub const RX_ADC_COUNT: usize = 4;
 
-const RX_DDC_ENABLE: usize = 7;
+pub const RX_DDC_ENABLE: usize = 7;
 
-const RX_DDC_ENABLE_DDC0: u8 = 0x01;
+pub const RX_DDC_ENABLE_DDC0: u8 = 0x01;
 
-const RX_DDC0_RATE: usize = 18;
+pub const RX_DDC0_RATE: usize = 18;
 
-const RX_DDC0_BITS: usize = 22;
+pub const RX_DDC0_BITS: usize = 22;
 
-const TX_DAC_COUNT: usize = 4;
+pub const TX_DAC_COUNT: usize = 4;
 
-const TX_ONE_DAC: u8 = 1;
+pub const TX_ONE_DAC: u8 = 1;
 
-const HP_RUN: usize = 4;
+pub const HP_RUN: usize = 4;
 
-const HP_RUN_BIT: u8 = 0x01;
+pub const HP_RUN_BIT: u8 = 0x01;
 
-const HP_DDC0_PHASE: usize = 9;
+pub const HP_DDC0_PHASE: usize = 9;
 
-const HP_DUC_PHASE: usize = 329;
+pub const HP_DUC_PHASE: usize = 329;
 
-const HP_ALEX1: usize = 1428;
+pub const HP_ALEX1: usize = 1428;
 
-const HP_ALEX0: usize = 1432;
+pub const HP_ALEX0: usize = 1432;
 
-const HP_STEP_ATTENUATOR_ADC0: usize = 1443;
+pub const HP_STEP_ATTENUATOR_ADC0: usize = 1443;
 
 pub enum PacketAnswer {
     Written,

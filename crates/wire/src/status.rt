@@ -7,7 +7,7 @@ pub const STATUS_LEN: usize = 60;
 // ADC0's overload bit.
 pub const ADC0_OVERLOAD: u8 = 0x01;
 
-const STATUS_ADC_OVERLOAD: usize = 5;
+pub const STATUS_ADC_OVERLOAD: usize = 5;
 
 pub enum OverloadBits {
     Bits(u8),

@@ -2,7 +2,7 @@
 use mathlib.Core.Bool.{true}
 use Rattle.model.specs.Sending as Sending
 use Rattle.model.specs.declared.session.Common.{Common}
-use Rattle.model.specs.declared.command.Stream.the-variants.{RxSpecific, TxSpecific}
+use Rattle.wire.specs.declared.command.Stream.the-variants.{RxSpecific, TxSpecific}
 use Rattle.model.proofs.Room.{send-within}
 use Rattle.base.proofs.Tests.{due, not-due}
 use Rattle.sending.proofs.Progresses.{room-after, sends-due, sends-idle, sends-then, sends-from}

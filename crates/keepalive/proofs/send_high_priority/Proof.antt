@@ -2,7 +2,7 @@
 use mathlib.Core.Bool.{true}
 use Rattle.model.specs.Sending as Sending
 use Rattle.model.specs.Parts.{with-clocks, with-high-priority}
-use Rattle.model.specs.declared.command.Stream.the-variants.{HighPriority}
+use Rattle.wire.specs.declared.command.Stream.the-variants.{HighPriority}
 use Rattle.sending.proofs.Progresses.{sends-from}
 use borrow.Author.Needs.{needs}
 use Rattle.keepalive.proofs.send_high_priority.Statement.{statement}

@@ -1,7 +1,7 @@
 -- `sending::send::put_packet` meets its contract: each stream by its writer. Assumes nothing.
 use borrow.Author.Needs.{needs}
 use Rattle.model.specs.Sending as Sending
-use Rattle.model.specs.declared.command.Stream.the-variants.{General, RxSpecific, TxSpecific, HighPriority}
+use Rattle.wire.specs.declared.command.Stream.the-variants.{General, RxSpecific, TxSpecific, HighPriority}
 use Rattle.sending.proofs.Progresses.{put-as, at-level}
 use Rattle.sending.proofs.send.put_packet.Statement.{statement}
 use Rattle.sending.proofs.send.put_packet.Tie as tie

@@ -2,7 +2,7 @@
 use mathlib.Core.Bool.{false}
 use Rattle.model.specs.Sending as Sending
 use Rattle.model.specs.declared.session.Common.{Common}
-use Rattle.model.specs.declared.command.Stream.the-variants.{HighPriority}
+use Rattle.wire.specs.declared.command.Stream.the-variants.{HighPriority}
 use Rattle.model.proofs.Room.{send-within}
 use Rattle.sending.proofs.Progresses.{room-after, sends-then}
 use borrow.Author.Needs.{needs}
