@@ -357,6 +357,9 @@ def octets():
     for n in [0, 1, 4, len(p)]:
         line('clear', [str(n), word(p)], word([0] * n + p[n:]))
     line('clear', ['0', 'x:'], 'x:', 'no octets')
+    for q in [[0] * 4, *(put([0] * 4, i, 1, v) for i in range(4) for v in [1, 0x80])]:
+        for start, end in [(0, 4), (1, 3), (1, 1), (2, 1), (4, 4), (9, 4)]:
+            line('is_zero', [str(start), str(end), word(q)], int(not any(q[start:end])))
 
 
 def float_of(b):

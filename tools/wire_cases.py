@@ -88,6 +88,10 @@ def rates():
     other += [(0, 'zero'), (TOP, 'minus zero'), (NO_NUMBER, 'NaN'), (INFINITY, 'infinity'), (TOP + INFINITY, 'minus infinity')]
     for b, why in near + other:
         line('rate_khz', [pattern(b)], rate_khz(of_bits(b)), why)
+    title('is_rate_khz: the four, the numbers beside them, and others')
+    near = [khz + k for khz in [48, 96, 192, 384] for k in [-1, 0, 1]]
+    for khz in [*near, 0, 1, 24, 144, 480, 768, 1536, 48 * 256, 48000, 65535]:
+        line('is_rate_khz', [str(khz)], int(rate_khz(of(khz * 1000)) == khz))
 
 
 # Boards and filters: the Rust's table and ladders.

@@ -11,6 +11,12 @@ SECOND = 'seconds 1000000000'
 REFUSED = 'parse_reply x:'
 ABSENT = 'adc_overload_bits x:'
 STALL = 'stall_calls 4500000000 x:0001'  # a delivery, then a report
+RADIO = '00' * 38  # a new radio
+TRANSMIT = '000305000401'  # octet 3 is 5 and octet 4 is 1: count 5
+READ = f'read_command 2 60 x:{RADIO}{TRANSMIT}'
+KEPT = RADIO[:30] + '05' + RADIO[32:]
+BIT = 'ee' * 60
+STATUS = '0000000000' + '01' + '00' * 54
 
 WRONG = [
     ('numbers', [
@@ -32,6 +38,14 @@ WRONG = [
     ('octets', [
         (f'{STALL} = x:0200', 'gave x:0201'), (f'{STALL} = x:0101', 'gave x:0201'), (f'{STALL} = x:02', 'gave x:0201'),
         (f'{STALL} = x:020100', 'gave x:0201'), (f'{STALL} = x:', 'gave x:0201'), (f'{STALL} = 0201', 'gave x:0201'),
+    ]),
+    ('what a radio keeps, its refusals, and what it writes', [
+        (f'{READ} = x:{RADIO}{TRANSMIT}', f'gave x:{KEPT}{TRANSMIT}'), (f'{READ} = r:20', f'gave x:{KEPT}{TRANSMIT}'),
+        (f'read_command 2 61 x:{RADIO}{TRANSMIT} = r:21', 'gave r:20'),
+        (f'read_command 2 60 x:{RADIO}000402 = r:20', 'gave r:21'),
+        (f'command_left 2 60 x:{RADIO}000402 = r:21', f'gave x:{RADIO}000402'),
+        (f'status_packet 1 x:{BIT} = x:{BIT}', f'gave x:{STATUS}'), (f'status_packet 1 x:{BIT} = r:15', f'gave x:{STATUS}'),
+        (f'status_packet 1 x:{BIT} = x:{STATUS[:10]}03{STATUS[12:]}', f'gave x:{STATUS}'),
     ]),
     ('a function that there is not, and one that is given something else', [
         ('no_such_function 1 = 1', 'gave nothing'), ('no_such_function 1 = nothing', 'gave nothing'),

@@ -2,6 +2,7 @@
 mod doubles;
 mod numbers;
 mod octets;
+mod radio;
 
 use crate::cases;
 use crate::random::Random;
@@ -31,7 +32,7 @@ impl Page {
 }
 
 /// A seed each: a further part leaves the others as they are.
-const PARTS: [fn(&mut Page, &mut Random); 13] = [
+const PARTS: [fn(&mut Page, &mut Random); 14] = [
     doubles::phase_words,
     doubles::rates,
     doubles::alex_words,
@@ -45,6 +46,7 @@ const PARTS: [fn(&mut Page, &mut Random); 13] = [
     octets::iq_samples,
     octets::requests,
     octets::replies,
+    radio::commands,
 ];
 
 pub fn run() {

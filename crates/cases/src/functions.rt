@@ -9,6 +9,7 @@ use probes::double_cases;
 use probes::octet_cases;
 use probes::packet_cases;
 use probes::wire_cases;
+use radio_probes::radio_cases;
 
 // A function by its row in the table of its group.
 pub(crate) enum Function {
@@ -18,6 +19,7 @@ pub(crate) enum Function {
     Packet(usize),
     Part(usize),
     Receiving(usize),
+    Radio(usize),
     Unknown,
 }
 
@@ -41,6 +43,9 @@ pub(crate) fn named(name: &[u8], count: usize, has_octets: bool) -> Function {
     if let Found::Row(row) = find(&receiving_cases::TABLE, name, count, has_octets) {
         return Function::Receiving(row);
     }
+    if let Found::Row(row) = find(&radio_cases::TABLE, name, count, has_octets) {
+        return Function::Radio(row);
+    }
     Function::Unknown
 }
 
@@ -53,6 +58,7 @@ pub(crate) fn answer(f: Function, n: [u64; 6], p: &mut [u8]) -> Answer {
         Function::Packet(row) => packet_cases::answer(row, n, p),
         Function::Part(row) => part_cases::answer(row, n, p),
         Function::Receiving(row) => receiving_cases::answer(row, n, p),
+        Function::Radio(row) => radio_cases::answer(row, n, p),
         Function::Unknown => Answer::Nothing,
     }
 }

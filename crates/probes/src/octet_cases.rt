@@ -1,13 +1,15 @@
 // The functions of octets that a case can name. A row is counted from 0, in the order of the table.
 ghost use Prim.Native.Nat.{_<_};
+use super::double_cases::of_bool;
 use casebook::answer::Answer;
 
-pub const TABLE: [u8; 63] = *b"get_u16 1o\n\
+pub const TABLE: [u8; 74] = *b"get_u16 1o\n\
     get_u32 1o\n\
     put_u16 2o\n\
     put_u24 2o\n\
     put_u32 2o\n\
-    clear 1o";
+    clear 1o\n\
+    is_zero 2o";
 
 fn get(row: usize, p: &[u8], at: usize) -> Answer
     requires { ⌜ at < 65536 ⌝ }
@@ -59,6 +61,13 @@ fn clear(p: &mut [u8], n: usize) -> Answer {
     Answer::Nothing
 }
 
+fn is_zero(p: &[u8], from: usize, to: u64) -> Answer {
+    if to <= p.len() as u64 {
+        return of_bool(octets::is_zero(p, from, to as usize));
+    }
+    Answer::Nothing
+}
+
 // p is what the case gives, and is changed in place. No answer where a place or a value is outside what the function asks.
 pub fn answer(row: usize, n: [u64; 6], p: &mut [u8]) -> Answer {
     if n[0] >= 65536 {
@@ -71,6 +80,9 @@ pub fn answer(row: usize, n: [u64; 6], p: &mut [u8]) -> Answer {
     }
     if row == 5 {
         return clear(p, at);
+    }
+    if row == 6 {
+        return is_zero(p, at, v);
     }
     if v < 4294967296 {
         return put(row, p, at, v as u32);

@@ -12,11 +12,12 @@ use tuning::board::FilterScheme;
 use tuning::board::board_info;
 use tuning::phase::phase_word;
 use tuning::rate::RateAnswer;
+use tuning::rate::is_rate_khz;
 use tuning::rate::rate_khz;
 use wire::status::adc0_overload;
 
 // The four of observe are given whether a number is expected, that number, the stale run and the arrival's number.
-pub const TABLE: [u8; 161] = *b"phase_word 1\n\
+pub const TABLE: [u8; 175] = *b"phase_word 1\n\
     rate_khz 1\n\
     alex0 2\n\
     alex1 2\n\
@@ -27,13 +28,21 @@ pub const TABLE: [u8; 161] = *b"phase_word 1\n\
     observe_event 4\n\
     observe_gap 4\n\
     observe_expected 4\n\
-    observe_run 4";
+    observe_run 4\n\
+    is_rate_khz 1";
 
 fn rate(x: f64) -> Answer {
     match rate_khz(x) {
         RateAnswer::Khz(khz) => Answer::Number(khz as u64),
         RateAnswer::NotEncodable => Answer::Refused(3),
     }
+}
+
+fn is_rate(khz: u64) -> Answer {
+    if khz < 65536 {
+        return of_bool(is_rate_khz(khz as u16));
+    }
+    Answer::Nothing
 }
 
 fn scheme_of(n: u64) -> FilterScheme {
@@ -170,6 +179,7 @@ pub fn answer(row: usize, n: [u64; 6]) -> Answer {
         2 | 3 => alex(row, n[0], double_of(n[1])),
         4 | 5 | 6 => board(row, n[0]),
         7 => overload(n[0]),
+        12 => is_rate(n[0]),
         _ => observe(row, n[0], n[1], n[2], n[3]),
     }
 }

@@ -6,26 +6,33 @@ mod discovery_cases;
 mod double_cases;
 mod health_cases;
 mod instant_cases;
+mod radio_cases;
 mod ran;
 mod receiving_cases;
 mod stall_cases;
 mod stream_cases;
 mod wire_cases;
 
+pub use radio_cases::{placed, RADIO, RUN};
 pub use ran::spelt;
 use ran::Ran::{self, *};
 use std::collections::BTreeMap;
+pub use wire_cases::given;
 
 /// None for a function of another file.
 type Run = fn(&str, &[u64], &[u8]) -> Option<Ran>;
 
-const FILES: [(&str, Run); 9] = [
+const FILES: [(&str, Run); 10] = [
     ("wire.rs", wire_cases::run),
     ("mod.rs", stream_cases::run),
     ("mod.rs's receiver", receiving_cases::run),
     ("attenuator.rs", attenuator_cases::run),
     ("stall.rs", stall_cases::run),
     ("discovery.rs", discovery_cases::run),
+    (
+        "wire.rs and discovery.rs beside the radio",
+        radio_cases::run,
+    ),
     ("lib.rs's counters", health_cases::run),
     ("std's Instant", instant_cases::run),
     ("std's f64 and Duration", double_cases::run),
@@ -33,13 +40,14 @@ const FILES: [(&str, Run); 9] = [
 
 /// The functions of octets alone, of which manta has no counterpart. A name that is neither here nor in a file above
 /// is an error, so that no case goes unnoticed.
-const OURS: [&str; 6] = [
+const OURS: [&str; 7] = [
     "get_u16",
     "get_u32",
     "put_u16",
     "put_u24",
     "put_u32",
     "clear",
+    "is_zero",
 ];
 
 fn number(s: &str) -> u64 {
@@ -82,7 +90,24 @@ pub fn answer(left: &str) -> Option<String> {
         Number(n) if ["alex0", "alex1", "iq_sample"].contains(&name) => Some(format!("{n:#010x}")),
         Number(n) => Some(n.to_string()),
         Word(w) => Some(w),
-        Skipped(_) => None,
+        Reads(_) | Skipped(_) => None,
+    }
+}
+
+/// What came, as a case spells it: of octets that the Rust only reads, the first of these that are they.
+fn came(ran: Ran, words: &[&str]) -> String {
+    match ran {
+        Number(n) => n.to_string(),
+        Word(w) => w,
+        Reads(are) => {
+            let fits = |w: &&&str| w.strip_prefix("x:").is_some_and(|o| are(&octets(o)));
+            words
+                .iter()
+                .find(fits)
+                .unwrap_or(&"other octets")
+                .to_string()
+        }
+        Skipped(why) => why.into(),
     }
 }
 
@@ -104,16 +129,15 @@ impl Tally {
     fn line(&mut self, at: usize, line: &str) {
         let (left, expected) = line.split_once(" = ").unwrap();
         let (name, a, p) = split(left);
-        let came = match judged(name, &a, &p) {
+        let (file, ran) = match judged(name, &a, &p) {
             None if OURS.contains(&name) => {
                 return self.skip("octets by themselves: manta has no such functions")
             }
             None => panic!("line {at}: {name}: a function that is not known here"),
             Some((_, Skipped(why))) => return self.skip(why),
-            Some((file, Number(n))) => (file, n.to_string()),
-            Some((file, Word(w))) => (file, w),
+            Some(ran) => ran,
         };
-        let (file, came) = came;
+        let came = came(ran, &[expected]);
         self.ran[file].0 += 1;
         if !same(&came, expected) {
             self.ran[file].1 += 1;
@@ -130,9 +154,10 @@ impl Tally {
         let (left, expected) = line.split_once(" = ").unwrap();
         let (name, a, p) = split(left);
         let came = match judged(name, &a, &p) {
-            Some((_, Number(n))) => n.to_string(),
-            Some((_, Word(w))) => w,
-            _ => panic!("line {at}: {name}: the Rust can't tell what is wrong"),
+            None | Some((_, Skipped(_))) => {
+                panic!("line {at}: {name}: the Rust can't tell what is wrong")
+            }
+            Some((_, ran)) => came(ran, &[expected, given]),
         };
         self.wrong.0 += 1;
         if same(&came, expected) || !same(&came, given) {

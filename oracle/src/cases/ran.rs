@@ -4,6 +4,8 @@ use std::panic::{self, AssertUnwindSafe};
 pub enum Ran {
     Number(u64),
     Word(String),
+    /// Octets that the Rust does not write but reads: whether these are they.
+    Reads(Box<dyn Fn(&[u8]) -> bool>),
     /// No counterpart in the Rust, and why.
     Skipped(&'static str),
 }

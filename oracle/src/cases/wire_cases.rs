@@ -19,7 +19,7 @@ fn board(n: u64) -> BoardInfo {
 }
 
 /// A board by what its packets carry.
-fn given(adcs: u64, enable: u64) -> BoardInfo {
+pub fn given(adcs: u64, enable: u64) -> BoardInfo {
     BoardInfo {
         adc_count: adcs as u8,
         filter_enable: enable as u8,
@@ -80,7 +80,7 @@ fn observe(name: &str, a: &[u64]) -> Ran {
 }
 
 /// The answer and the 476 f32; on refusal the output is as it was.
-fn parsed(p: &[u8]) -> (Result<u32, MalformedIq>, Vec<f32>) {
+pub fn parsed(p: &[u8]) -> (Result<u32, MalformedIq>, Vec<f32>) {
     let seven = Complex32::new(7.0, 7.0);
     let mut v = vec![seven];
     let r = parse_iq_datagram(p, &mut v);
@@ -149,6 +149,7 @@ pub fn run(name: &str, a: &[u64], p: &[u8]) -> Option<Ran> {
     Some(match name {
         "phase_word" => Number(phase_word(double(0)) as u64),
         "rate_khz" => option(rate_khz(double(0)).map(u64::from), "r:3"),
+        "is_rate_khz" => Number((rate_khz(a[0] as f64 * 1000.0) == Some(a[0] as u16)) as u64),
         "alex0" => Number(alex_words(scheme(a[0]), double(1)).0 as u64),
         "alex1" => Number(alex_words(scheme(a[0]), double(1)).1 as u64),
         "board_adcs" => Number(board(a[0]).adc_count as u64),

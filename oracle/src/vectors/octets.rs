@@ -3,7 +3,7 @@ use super::Page;
 use crate::cases::spelt;
 use crate::random::Random;
 
-fn count(draw: &mut Random) -> u32 {
+pub fn count(draw: &mut Random) -> u32 {
     let any = draw.any() as u32;
     draw.one_of(&[0, u32::MAX, any, any])
 }
@@ -55,7 +55,7 @@ fn datagram(draw: &mut Random, length: usize) -> Vec<u8> {
 }
 
 /// One octet of a range is one too high or too low.
-fn wrong(draw: &mut Random, mut p: Vec<u8>, from: usize, octets: u64) -> Vec<u8> {
+pub fn wrong(draw: &mut Random, mut p: Vec<u8>, from: usize, octets: u64) -> Vec<u8> {
     let at = from + draw.below(octets) as usize;
     p[at] = p[at].wrapping_add(draw.one_of(&[1, 255]));
     p

@@ -1,0 +1,2 @@
+-- What the proofs of `radio_probes` use.
+pub mod Signed

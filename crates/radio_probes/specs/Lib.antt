@@ -1,0 +1,1 @@
+-- The functions of `radio_probes` are promised safe and ending, and no more.
