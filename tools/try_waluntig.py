@@ -369,6 +369,8 @@ def try_wrong_lists(t):
         ('a value', b'open rate=48000.0\n', b"error line 1: expected a value of rate, found 'rate=48000.0'\n"),
         ('a word that is missing', b'open\nbegin', b'opened\nerror line 2: expected a reading, found the end of the line\n'),
         ('a word too many', b'open\nbegin 1 2\nstate\n', b"opened\nerror line 2: expected the end of the line, found '2'\n"),
+        ('the radio of no session', b'radio\nopen\n', b"error line 1: expected open, found 'radio'\n"),
+        ('a word behind radio', b'open\nradio all\n', b"opened\nerror line 2: expected the end of the line, found 'all'\n"),
     ]
     for name, given, out in cases:
         t.expect(f'a list with an error: {name}', t.run(['calls', t.file(given)]), out, WRONG_LIST, ANYTHING)
@@ -446,6 +448,10 @@ def try_flags(t):
     came = t.run(['calls', '--numbered'], b'\nopen\nbegin x\n')
     out = b"2: opened\nerror line 3: expected a reading, found 'x'\n"
     t.expect('--numbered, a list with an error', came, out, WRONG_LIST, ANYTHING)
+    untold = answers_of('radio').splitlines(keepends=True)[1]
+    account = b'total stretches 0 samples 0 missing 0 restart 0 handed 0 waiting 0\ncounters dropped 0 gaps 0 malformed 0 loss 0\n'
+    came = t.run(['calls', '--numbered'], b'open\n\nradio\n')
+    t.expect('--numbered, the radio', came, b'1: opened\n3: ' + untold + account, FINE, NOTHING)
 
 
 def try_wrong_use(t):

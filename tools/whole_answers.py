@@ -3,9 +3,10 @@
 
     python3 -B tools/whole_answers.py ANSWERS FOLDER
 
-FOLDER/stdin has the sessions of lists/*.calls, without their `state` lines. FOLDER/stdout has their answers from ANSWERS, and
-behind each session's account a line of what is read off it: rate and centre as its `open` has them, the attenuation as its last
-`state` told it. A session is left out where its attenuation may have moved after that; LEFT_OUT says how many there are.
+FOLDER/stdin has the sessions of lists/*.calls, without their `state` and `radio` lines. FOLDER/stdout has their answers
+from ANSWERS, and behind each session's account a line of what is read off it: rate and centre as its `open` has them, the
+attenuation as its last `state` told it. A session is left out where its attenuation may have moved after that; LEFT_OUT
+says how many there are.
 """
 import struct
 import sys
@@ -13,6 +14,9 @@ from pathlib import Path
 
 LISTS = Path(__file__).resolve().parent.parent / 'lists'
 LEFT_OUT = 5
+
+# The lines that are no calls.
+ASKS = {'state', 'radio'}
 
 # The calls that can't move the attenuation.
 STILL = {'begin', 'take', 'missing', 'discontinuity', 'stalled', 'close'}
@@ -51,7 +55,7 @@ def follow(session, words, answer):
     if words[0] == 'state':
         told = answer.split(' attenuation ')[1].split()[0]
         session.level = '0' if told == 'off' else told
-    elif session.settings.get('attenuation') == 'on' and words[0] not in STILL:
+    elif session.settings.get('attenuation') == 'on' and words[0] not in STILL | ASKS:
         session.level = None
 
 
@@ -64,7 +68,7 @@ def give(session, answers):
         answer = next(answers)
         if words[0] != 'open':
             follow(session, words, answer)
-        if words[0] != 'state':
+        if words[0] not in ASKS:
             session.answers.append(answer)
     if session.answers[0] != 'opened':
         return
@@ -96,7 +100,7 @@ def main(answers, folder):
             if session.level is None:
                 left_out.append(path.stem)
                 continue
-            given += [line for line in session.text if words_of(line)[:1] != ['state']]
+            given += [line for line in session.text if not ASKS.intersection(words_of(line)[:1])]
             told += session.answers + reads(session)
         assert next(lines, None) is None, f'{path.stem}: more answers than calls'
     assert len(left_out) == LEFT_OUT, f'sessions are left out of {left_out}, and not {LEFT_OUT}'

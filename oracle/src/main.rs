@@ -8,6 +8,7 @@ mod generate;
 mod lists;
 mod local_bind;
 mod octets;
+mod radio;
 mod random;
 mod script;
 mod socket;
@@ -43,8 +44,9 @@ fn check(top: &str) -> bool {
     let lists = lists::check(&format!("{top}/lists"));
     let octets = errors::octets();
     let limits = errors::limits();
+    let packets = radio::trials::check();
     let random = generate::check();
-    cases && errors && outside && lists && octets && limits && random
+    cases && errors && outside && lists && octets && limits && packets && random
 }
 
 fn usage() -> bool {

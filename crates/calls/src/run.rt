@@ -1,5 +1,7 @@
 // The lines of a list, each read, run and answered in turn.
 ghost use Rattle.console.specs.Input.{Within};
+use super::practice::listened;
+use super::practice::untold;
 use super::sessions::after;
 use super::sessions::became_of;
 use super::sessions::told;
@@ -75,6 +77,7 @@ fn run_lines(
     out: &mut [u8; ROOM],
 ) -> u8 {
     let mut h = unused(samples, table);
+    let mut p = untold();
     let mut d = empty(flags);
     let mut at = nothing();
     let mut turns = u64::MAX;
@@ -88,7 +91,7 @@ fn run_lines(
         }
         d = read(d, at, text, call, octets, numbers, out);
         let asks = d.asks;
-        d = told(h, d, table, out);
+        d = told(h, p, d, table, out);
         let before = h.sitting.account;
         h = after(
             h,
@@ -104,6 +107,7 @@ fn run_lines(
             answers,
             table,
         );
+        p = listened(p, asks, packets, answers);
         d = reply::tell(d, became_of(h, before, call), packets, places, answers, out);
     }
     end(d, at.failed, name, out)

@@ -4,6 +4,8 @@ ghost use Rattle.console.specs.Input.{Within};
 ghost use Rattle.examining.specs.Stands.{Standing};
 ghost use Rattle.holding.specs.Held.{Holds, Kept};
 ghost use Rattle.desk.specs.Asked.{Asks, IsRun};
+use super::practice;
+use super::practice::Practice;
 use console::input::Input;
 use console::input::ROOM as INPUT;
 use console::output::ROOM;
@@ -11,6 +13,7 @@ use desk::desk::CALL;
 use desk::desk::Desk;
 use desk::desk::END;
 use desk::desk::OPEN;
+use desk::desk::RADIO;
 use desk::desk::STATE;
 use desk::desk::numbered;
 use desk::desk::written;
@@ -112,14 +115,21 @@ fn shown(s: Session, d: Desk, out: &mut [u8; ROOM]) -> Desk {
     written(d, state::tell(out, start, s))
 }
 
-// Of the session as it is before the line in hand: its state, or its account where it ends.
-pub(crate) fn told(h: Held, d: Desk, table: &[u64; TABLE], out: &mut [u8; ROOM]) -> Desk
+// Of the session as it is before the line in hand: its state, its account where it ends, or what the radio beside it keeps.
+pub(crate) fn told(
+    h: Held,
+    p: Practice,
+    d: Desk,
+    table: &[u64; TABLE],
+    out: &mut [u8; ROOM],
+) -> Desk
     requires { ⌜ Kept h (now table) ⌝ }
 {
     let asks = d.asks;
     let s = h.sitting.session;
     match asks {
         STATE => shown(s, d, out),
+        RADIO => practice::shown(p, d, out),
         OPEN | END => ended(h, d, table, out),
         _ => d,
     }

@@ -14,10 +14,12 @@ pub const CALL: u8 = 1;
 
 pub const STATE: u8 = 2;
 
-pub const OPEN: u8 = 3;
+pub const RADIO: u8 = 3;
+
+pub const OPEN: u8 = 4;
 
 // There is no line any more.
-pub const END: u8 = 4;
+pub const END: u8 = 5;
 
 // What a list is run with.
 pub struct Flags {

@@ -8,6 +8,7 @@ use super::desk::Desk;
 use super::desk::END;
 use super::desk::NOTHING;
 use super::desk::OPEN;
+use super::desk::RADIO;
 use super::desk::STATE;
 use super::desk::asking;
 use super::desk::stopped;
@@ -63,6 +64,7 @@ fn read_line(
         Read::Open => open_line(d, line, out),
         Read::Call => session_line(d, CALL, line, out),
         Read::State => session_line(d, STATE, line, out),
+        Read::Radio => session_line(d, RADIO, line, out),
         Read::Unread(e) => stopped(d, out, e, line),
     }
 }

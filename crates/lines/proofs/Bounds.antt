@@ -140,9 +140,9 @@ at-seam v (x ∷ a) b (suc n) z h k e = ap suc (at-seam v a b n z (h .1) k e)
 -- a Take has one name
 is-take : (name : ℕ) → getD kinds name 0 ≡ 3 → name ≡ takeName
 is-take name e =
-    at-seam 3 (0 ∷ 1 ∷ 2 ∷ 2 ∷ 2 ∷ []) (4 ∷ 5 ∷ 6 ∷ 7 ∷ 0 ∷ 0 ∷ []) name (λ z. omega arith)
+    at-seam 3 (0 ∷ 1 ∷ 2 ∷ 2 ∷ 2 ∷ []) (4 ∷ 5 ∷ 6 ∷ 7 ∷ 0 ∷ 0 ∷ 0 ∷ []) name (λ z. omega arith)
     (λ z. omega arith, (λ z. omega arith, (λ z. omega arith, (λ z. omega arith, (λ z. omega arith, tt)))))
-    (λ z. omega arith, (λ z. omega arith, (λ z. omega arith, (λ z. omega arith, (λ z. omega arith, (λ z. omega arith, tt))))))
+    (λ z. omega arith, (λ z. omega arith, (λ z. omega arith, (λ z. omega arith, (λ z. omega arith, (λ z. omega arith, (λ z. omega arith, tt)))))))
     e
 
 module _ (name : ℕ) (l : List ℕ) (h : Held name l) where

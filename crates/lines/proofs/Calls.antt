@@ -18,10 +18,10 @@ use Rattle.lines.specs.declared.Read.the-variants as Read
 use Rattle.lines.specs.declared.option.Took.{Took}
 use Rattle.lines.specs.declared.option.Took.the-variants.{Taken, Unknown, Unreadable}
 use Rattle.lines.specs.Key.{bufferKey, keyCount, unsaid}
-use Rattle.lines.specs.Name.{names, stateName, openName, nameCount, ends, textOf}
+use Rattle.lines.specs.Name.{names, stateName, radioName, openName, nameCount, ends, textOf}
 use Rattle.lines.specs.Argument.{allRead, form, argumentOctets, argumentsSeen, Arguments}
 use Rattle.lines.specs.Option.{optionsTook, optionsValues, optionsNumbers, optionsSeen, Ran}
-use Rattle.lines.specs.Call.{expectedWord, optioned, argumentsOf, optionsOf, readNamed, readWords, wordsOf, longest, readLine, valuesOf, callOf, octetsOf, onCall, namedSeen, Named, nameOf, after, ofNamed, ofLine, octetsLeft, numbersLeft, Lent}
+use Rattle.lines.specs.Call.{expectedWord, optioned, argumentsOf, optionsOf, asked, readNamed, readWords, wordsOf, longest, readLine, valuesOf, callOf, octetsOf, onCall, namedSeen, Named, nameOf, after, ofNamed, ofLine, octetsLeft, numbersLeft, Lent}
 use Rattle.lines.proofs.Forms.{getD-under}
 use Rattle.lines.proofs.Bounds.{Held, held-options, held-form, fit}
 
@@ -30,6 +30,7 @@ kept Read.Call f new other = absurd (f refl)
 kept Read.Nothing f new other = refl
 kept Read.Open f new other = refl
 kept Read.State f new other = refl
+kept Read.Radio f new other = refl
 kept (Read.Unread x) f new other = refl
 
 module _ (name ip port : ℕ) (s b d n : List ℕ) (ws : List (List ℕ)) (r at : ℕ) (m e : List ℕ) (g : Arguments (form name) s unsaid d ws r at m e) where
@@ -50,10 +51,10 @@ module _ (name ip port : ℕ) (s b d n : List ℕ) (ws : List (List ℕ)) (r at 
     values-here : m ≡ argumentsOf name ws
     values-here = g .values h
 
-    told-here : optioned q Expected.End (pick (eqb name stateName) Read.State Read.Call) ≡ readNamed name ws
+    told-here : optioned q Expected.End (asked name) ≡ readNamed name ws
     unfolding readNamed
     told-here =
-        ap (λ (x : Took). optioned x Expected.End (pick (eqb name stateName) Read.State Read.Call))
+        ap (λ (x : Took). optioned x Expected.End (asked name))
         (o .told
         ∙ ap (λ (x : ℕ). optionsTook bufferKey x m (words (drop at s))) k
         ∙ ap (λ (x : List ℕ). optionsTook bufferKey (getD ends name 0) x (words (drop at s))) values-here
@@ -88,9 +89,17 @@ module _ (name ip port : ℕ) (s b d n : List ℕ) (ws : List (List ℕ)) (r at 
     unread-value j t = stopped _ (λ q. let z : _≡_ {A = ℕ} 0 1 = cc in omega arith) (rw t at told-here)
 
     module _ (t : q ≡ Taken) where
-      pub state : name ≡ stateName → Named name ip port b d n ws Read.State b e n2
+      named-here : asked name ≡ readNamed name ws
       unfolding optioned
-      state f = stopped _ (λ q. let z : _≡_ {A = ℕ} 0 1 = cc in omega arith) (sym (pick-t _ _ _ (eq-eqb name stateName f)) ∙ (rw t at told-here))
+      named-here = rw t at told-here
+
+      pub state : name ≡ stateName → Named name ip port b d n ws Read.State b e n2
+      unfolding asked
+      state f = stopped _ (λ q. let z : _≡_ {A = ℕ} 0 1 = cc in omega arith) (sym (pick-t _ _ _ (eq-eqb name stateName f)) ∙ named-here)
+
+      pub radio : (name ≡ stateName → ⊥) → name ≡ radioName → Named name ip port b d n ws Read.Radio b e n2
+      unfolding asked
+      radio f k = stopped _ (λ q. let z : _≡_ {A = ℕ} 0 1 = cc in omega arith) (sym (pick-f _ _ _ (ne-eqb name stateName f) ∙ pick-t _ _ _ (eq-eqb name radioName k)) ∙ named-here)
 
       values-then : m2 ≡ valuesOf name ws
       unfolding valuesOf
@@ -104,11 +113,11 @@ module _ (name ip port : ℕ) (s b d n : List ℕ) (ws : List (List ℕ)) (r at 
           let v : optionsValues (argumentsOf name ws) (words (drop at s)) ≡ m2 = sym (o .values t ∙ ap (λ (x : List ℕ). optionsValues x (words (drop at s))) values-here) in
           rw v at (held-options name bufferKey to (words (drop at s)) (argumentsOf name ws) b a (held-form name ws))
 
-      pub done : (name ≡ stateName → ⊥) → ip < 4294967296 → (c y : List ℕ) → c ≡ callOf name ip port m2 → y ≡ octetsOf name m2 e → Named name ip port b d n ws Read.Call c y n2
-      unfolding optioned
-      done f l c y p w =
+      pub done : (name ≡ stateName → ⊥) → (name ≡ radioName → ⊥) → ip < 4294967296 → (c y : List ℕ) → c ≡ callOf name ip port m2 → y ≡ octetsOf name m2 e → Named name ip port b d n ws Read.Call c y n2
+      unfolding asked
+      done f v l c y p w =
           record {
-            told = sym (pick-f _ _ _ (ne-eqb name stateName f)) ∙ (rw t at told-here);
+            told = sym (pick-f _ _ _ (ne-eqb name stateName f) ∙ pick-f _ _ _ (ne-eqb name radioName v)) ∙ named-here;
             call = p ∙ ap (callOf name ip port) values-then;
             octets = w ∙ ap (λ (x : List ℕ). octetsOf name x e) values-then ∙ ap (octetsOf name (valuesOf name ws)) (g .octets h);
             numbers = o .numbers t ∙ ap (optionsNumbers n) (g .follows h);

@@ -10,7 +10,7 @@ pub key-names : words (ascii "buffer waiting length bits samples at receivers ce
 unfolding words parts notEmpty blank grown
 key-names = refl
 
-pub call-names : words (ascii "begin pass iq status datagram take close missing discontinuity stalled state open") ≡ names
+pub call-names : words (ascii "begin pass iq status datagram take close missing discontinuity stalled state radio open") ≡ names
 unfolding words parts notEmpty blank grown
 call-names = refl
 

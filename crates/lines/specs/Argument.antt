@@ -48,6 +48,7 @@ forms =
     ∷ []
     ∷ []
     ∷ []
+    ∷ []
 
 abbrev pub form : ℕ → List ℕ
 form name = getD forms name []

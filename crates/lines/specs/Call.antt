@@ -16,7 +16,7 @@ use Rattle.lines.specs.declared.Read.the-variants as Read
 use Rattle.lines.specs.declared.option.Took.{Took}
 use Rattle.lines.specs.declared.option.Took.the-variants.{Taken, Unknown, Unreadable}
 use Rattle.lines.specs.Key.{bufferKey, waitingKey, lengthKey, bitsKey, samplesKey, wordsAt, firstWord, secondWord, thirdWord, fourthWord, keysAt, unsaid, mostOctets, mostNumbers}
-use Rattle.lines.specs.Name.{names, iqName, statusName, datagramName, takeName, stateName, openName, nameCount, ends, kinds, buffers, textOf}
+use Rattle.lines.specs.Name.{names, iqName, statusName, datagramName, takeName, stateName, radioName, openName, nameCount, ends, kinds, buffers, textOf}
 use Rattle.lines.specs.Argument.{readingWord, numberWord, octetWord, placesWord, senderWord, form, allRead, unread, argumentValues, argumentOctets, argumentsSeen}
 use Rattle.lines.specs.Option.{said, optionsTook, optionsValues, optionsNumbers, optionsSeen}
 use Rattle.values.specs.Datagram.{iqOctets, statusOctets}
@@ -44,11 +44,15 @@ argumentsOf name ws = argumentValues wordsAt (form name) ws unsaid
 abbrev pub optionsOf : ℕ → List (List ℕ) → List (List ℕ)
 optionsOf name ws = drop (length (form name)) ws
 
+-- what a line of a name is whose words are read: a call, but for the two that ask
+unfoldable pub asked : ℕ → Read
+asked name = pick (eqb name stateName) Read.State (pick (eqb name radioName) Read.Radio Read.Call)
+
 unfoldable pub readNamed : ℕ → List (List ℕ) → Read
 readNamed name ws =
     pick (eqb (unread (form name) ws) allRead)
     (optioned (optionsTook bufferKey (getD ends name 0) (argumentsOf name ws) (optionsOf name ws)) Expected.End
-    (pick (eqb name stateName) Read.State Read.Call))
+    (asked name))
     (Read.Unread (expectedWord (unread (form name) ws)))
 
 unfoldable pub readWords : List (List ℕ) → Read
@@ -151,6 +155,7 @@ onCall Read.Call new other = new
 onCall Read.Nothing new other = other
 onCall Read.Open new other = other
 onCall Read.State new other = other
+onCall Read.Radio new other = other
 onCall (Read.Unread e) new other = other
 
 -- the lent numbers where the reading of a call's words ended: options are read where every word of the form is

@@ -23,6 +23,7 @@ names =
     ∷ "discontinuity"
     ∷ "stalled"
     ∷ "state"
+    ∷ "radio"
     ∷ "open"
     ∷ [])
 
@@ -41,11 +42,14 @@ takeName = 5
 abbrev pub stateName : ℕ
 stateName = 10
 
+abbrev pub radioName : ℕ
+radioName = 11
+
 abbrev pub openName : ℕ
-openName = 11
+openName = 12
 
 abbrev pub nameCount : ℕ
-nameCount = 12
+nameCount = 13
 
 -- a call has the keys before this one; `open` has the settings
 abbrev pub ends : List ℕ
@@ -62,15 +66,16 @@ ends =
     ∷ bufferKey
     ∷ bufferKey
     ∷ bufferKey
+    ∷ bufferKey
     ∷ []
 
 -- as eight numbers say it: begin, pass, an arrival, take, close, missing, discontinuity, stalled
 abbrev pub kinds : List ℕ
-kinds = 0 ∷ 1 ∷ 2 ∷ 2 ∷ 2 ∷ 3 ∷ 4 ∷ 5 ∷ 6 ∷ 7 ∷ 0 ∷ 0 ∷ []
+kinds = 0 ∷ 1 ∷ 2 ∷ 2 ∷ 2 ∷ 3 ∷ 4 ∷ 5 ∷ 6 ∷ 7 ∷ 0 ∷ 0 ∷ 0 ∷ []
 
 -- the packet buffer that a call needs
 abbrev pub buffers : List ℕ
-buffers = 0 ∷ 4452 ∷ 1444 ∷ 1444 ∷ 1444 ∷ 0 ∷ 2888 ∷ 0 ∷ 0 ∷ 0 ∷ 0 ∷ 0 ∷ []
+buffers = 0 ∷ 4452 ∷ 1444 ∷ 1444 ∷ 1444 ∷ 0 ∷ 2888 ∷ 0 ∷ 0 ∷ 0 ∷ 0 ∷ 0 ∷ 0 ∷ []
 
 -- what stands before a line's comment
 abbrev pub textOf : List ℕ → List ℕ

@@ -35,7 +35,7 @@ pub(crate) const ALL_READ: u8 = 6;
 const NONE: u8 = 0;
 
 // How many words the form of a name has, and what the first to the fourth are (specs/Argument).
-const COUNTS: [usize; NAME_COUNT] = [1, 1, 3, 3, 4, 2, 0, 0, 0, 0, 0, 0];
+const COUNTS: [usize; NAME_COUNT] = [1, 1, 3, 3, 4, 2, 0, 0, 0, 0, 0, 0, 0];
 
 const FIRST: [u8; NAME_COUNT] = [
     READING,
@@ -44,6 +44,7 @@ const FIRST: [u8; NAME_COUNT] = [
     READING,
     READING,
     READING,
+    NONE,
     NONE,
     NONE,
     NONE,
@@ -65,6 +66,7 @@ const SECOND: [u8; NAME_COUNT] = [
     NONE,
     NONE,
     NONE,
+    NONE,
 ];
 
 const THIRD: [u8; NAME_COUNT] = [
@@ -80,6 +82,7 @@ const THIRD: [u8; NAME_COUNT] = [
     NONE,
     NONE,
     NONE,
+    NONE,
 ];
 
 const FOURTH: [u8; NAME_COUNT] = [
@@ -88,6 +91,7 @@ const FOURTH: [u8; NAME_COUNT] = [
     NONE,
     NONE,
     OCTETS,
+    NONE,
     NONE,
     NONE,
     NONE,

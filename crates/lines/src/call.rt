@@ -206,6 +206,9 @@ fn read_named(
     if name == name::STATE {
         return Read::State;
     }
+    if name == name::RADIO {
+        return Read::Radio;
+    }
     *call = call_of(name, ip, port, &values);
     put_datagram(name, &values, octets);
     Read::Call

@@ -46,6 +46,7 @@ pub enum Read {
     Open,
     Call,
     State,
+    Radio,
     Unread(Expected),
 }
 

@@ -6,8 +6,8 @@ use super::key::SETTINGS;
 use super::key::WAITING;
 
 // A name is its place here.
-pub(crate) const NAMES: [u8; 81] =
-    *b"begin pass iq status datagram take close missing discontinuity stalled state open";
+pub(crate) const NAMES: [u8; 87] =
+    *b"begin pass iq status datagram take close missing discontinuity stalled state radio open";
 
 pub(crate) const BEGIN: usize = 0;
 
@@ -31,9 +31,11 @@ pub(crate) const STALLED: usize = 9;
 
 pub(crate) const STATE: usize = 10;
 
-pub(crate) const OPEN: usize = 11;
+pub(crate) const RADIO: usize = 11;
 
-pub(crate) const NAME_COUNT: usize = 12;
+pub(crate) const OPEN: usize = 12;
+
+pub(crate) const NAME_COUNT: usize = 13;
 
 // A call has the keys before this one; `open` has the settings.
 pub(crate) const ENDS: [usize; NAME_COUNT] = [
@@ -49,13 +51,28 @@ pub(crate) const ENDS: [usize; NAME_COUNT] = [
     BUFFER,
     BUFFER,
     BUFFER,
+    BUFFER,
 ];
 
 // As eight numbers say it: begin, pass, an arrival, take, close, missing, discontinuity, stalled.
-pub(crate) const KINDS: [u64; NAME_COUNT] = [0, 1, 2, 2, 2, 3, 4, 5, 6, 7, 0, 0];
+pub(crate) const KINDS: [u64; NAME_COUNT] = [0, 1, 2, 2, 2, 3, 4, 5, 6, 7, 0, 0, 0];
 
 // The packet buffer that a call needs.
-pub(crate) const BUFFERS: [u64; NAME_COUNT] = [0, 4452, 1444, 1444, 1444, 0, 2888, 0, 0, 0, 0, 0];
+pub(crate) const BUFFERS: [u64; NAME_COUNT] = [
+    0,
+    4452,
+    1444,
+    1444,
+    1444,
+    0,
+    2888,
+    0,
+    0,
+    0,
+    0,
+    0,
+    0,
+];
 
 // A line's text ends where its comment starts. Its first word ends where it starts if the line has no words.
 pub(crate) struct Beginning {

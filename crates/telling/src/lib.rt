@@ -3,4 +3,5 @@ pub mod answer;
 mod digest;
 pub mod error;
 pub mod key;
+pub mod radio;
 pub mod state;

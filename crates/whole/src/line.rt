@@ -72,7 +72,7 @@ fn read_line(
     let mut waiting = [0u32; MOST_NUMBERS];
     let read = read_call(line, d.ip, d.port, &mut call, &mut datagram, &mut waiting);
     match read {
-        Read::Nothing | Read::State => asking(d, NOTHING),
+        Read::Nothing | Read::State | Read::Radio => asking(d, NOTHING),
         Read::Open => open_line(d, line, out),
         Read::Call => call_line(
             d,

@@ -39,7 +39,8 @@ pub enum Answer {
     Missing(Option<u64>),
     Discontinuity(Option<u64>),
     Stalled(bool),
-    State(String),
+    /// What a line asks for that is no call.
+    Asked(String),
 }
 
 /// Adler-32 (RFC 1950).
@@ -203,7 +204,7 @@ impl fmt::Display for Answer {
             Answer::Stalled(stalled) => {
                 write!(f, "stalled {}", if *stalled { "yes" } else { "no" })
             }
-            Answer::State(text) => write!(f, "{text}"),
+            Answer::Asked(text) => write!(f, "{text}"),
         }
     }
 }

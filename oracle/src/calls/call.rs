@@ -147,6 +147,7 @@ pub enum Call {
     Discontinuity,
     Stalled,
     Close(Option<usize>),
-    /// No call: what the session holds.
+    /// No calls: what the session holds, and what the practice radio beside it keeps.
     State,
+    Radio,
 }

@@ -7,7 +7,8 @@ use crate::calls::flags::Flags;
 use crate::calls::found::expected;
 use crate::calls::parse;
 use crate::hpsdr::proto2::session::{self, Session};
-use crate::script::Problem;
+use crate::radio::Radio;
+use crate::script::{Made, Problem};
 use std::cell::RefCell;
 use std::io::Write;
 use std::rc::Rc;
@@ -38,6 +39,8 @@ struct Runner<W: Write> {
     session: Option<Session>,
     /// The account of a session that was opened, until it is written.
     account: Option<Account>,
+    /// Told what the session sends.
+    radio: Radio,
     ran: Ran,
     flags: Flags,
     out: W,
@@ -85,11 +88,18 @@ impl<W: Write> Runner<W> {
         }
     }
 
+    fn hear(&mut self, made: &Made, settings: &Settings) {
+        for (port, packet) in &made.sent {
+            self.radio.hear((port - settings.port) as usize, packet);
+        }
+    }
+
     fn close(&mut self, line: usize, call: Call) -> Result<(), Problem> {
         let s = self.session.take().unwrap();
         let settings = s.settings().clone();
         self.account.as_mut().unwrap().end(s.queue().1, s.counts());
         let made = s.close(call.clone());
+        self.hear(&made[0], &settings);
         self.say(line, &call, Answer::Sent(sent(&made[0], &settings)), 0)
     }
 
@@ -112,6 +122,7 @@ impl<W: Write> Runner<W> {
                 self.ran.sessions += 1;
                 self.session = Some(s);
                 self.account = Some(Account::default());
+                self.radio = Radio::default();
                 Answer::Opened
             }
             Err(number) => Answer::Refused(number),
@@ -124,17 +135,23 @@ impl<W: Write> Runner<W> {
         let before = session.counts();
         let pairs = self.feed.borrow().pairs();
         let read = session.read(self.feed.clone(), at, pairs)?;
-        let told = answers(&read, before, session.settings());
+        let settings = session.settings().clone();
+        let told = answers(&read, before, &settings);
         let samples = session.queue().0;
         for (i, (made, answer)) in read.made.iter().zip(told).enumerate() {
+            self.hear(made, &settings);
             let line = self.feed.borrow().lines[first + i].0;
             self.say(line, &made.call, answer, samples)?;
         }
         Ok(())
     }
 
-    /// A call with the session between reads.
+    /// A call with the session between reads. The radio is there after Close too.
     fn between(&mut self, at: usize, line: usize, call: Call) -> Result<(), Problem> {
+        if call == Call::Radio && self.account.is_some() {
+            let answer = Answer::Asked(self.radio.to_string());
+            return self.say(line, &call, answer, 0);
+        }
         let Some(session) = self.session.as_mut() else {
             return Err(match self.account {
                 Some(_) => no_counterpart(line, "the session is closed"),
@@ -147,7 +164,7 @@ impl<W: Write> Runner<W> {
             Call::Missing => Answer::Missing(session.take_missing_samples()),
             Call::Discontinuity => Answer::Discontinuity(session.take_discontinuity()),
             Call::Stalled => Answer::Stalled(session.take_stalled()),
-            Call::State => Answer::State(session::state::text(session)),
+            Call::State => Answer::Asked(session::state::text(session)),
             _ => return Err(no_counterpart(line, "no read is open")),
         };
         self.say(line, &call, answer, 0)
@@ -181,6 +198,7 @@ pub fn run(text: &str, flags: Flags, out: impl Write) -> Ran {
         feed: Rc::new(RefCell::new(feed)),
         session: None,
         account: None,
+        radio: Radio::default(),
         ran: Ran::default(),
         flags,
         out,

@@ -270,6 +270,7 @@ fn call(name: &str, w: &mut Words) -> Parsed<Call> {
         "stalled" => Call::Stalled,
         "close" => Call::Close(packets(w)?),
         "state" => Call::State,
+        "radio" => Call::Radio,
         _ => return Err(expected("a call", Some(name))),
     })
 }

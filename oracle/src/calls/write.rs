@@ -124,6 +124,7 @@ impl Display for Call {
                 buffer(f, room)
             }
             Call::State => write!(f, "state"),
+            Call::Radio => write!(f, "radio"),
         }
     }
 }

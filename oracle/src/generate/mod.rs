@@ -41,6 +41,14 @@ impl<W: Write> Maker<W> {
         writeln!(self.out, "{call}").unwrap();
     }
 
+    /// The radio is asked in so many of a hundred places. It is no call, and is drawn beside the others, so that a seed's calls are
+    /// what they are without it.
+    fn ask_radio(&mut self, percent: u64) {
+        if Random::new(self.made).percent(percent) {
+            writeln!(self.out, "{}", Call::Radio).unwrap();
+        }
+    }
+
     /// How a read ended.
     fn read(&mut self) -> End {
         let mut feed = self.feed.borrow_mut();
@@ -82,6 +90,7 @@ impl<W: Write> Maker<W> {
         if drawn[3] {
             self.write(&Call::State);
         }
+        self.ask_radio(20);
     }
 }
 
@@ -126,6 +135,7 @@ fn make_session(r: &mut Random, most: u64, out: &mut impl Write) -> u64 {
     if r.percent(80) {
         maker.write(&Call::State);
         maker.write(&Call::Close(None));
+        maker.ask_radio(50);
     }
     maker.made
 }

@@ -9,13 +9,16 @@ use Rattle.calls.proofs.run.run_lines.Statement.{statement}
 use Rattle.calls.proofs.run.run_lines.Tie as tie
 
 abbrev Inv-loop : tie.InvT-loop
-Inv-loop fd name text₀ samples₀ call₀ octets₀ numbers₀ packets₀ places₀ answers₀ table₀ out₀ h₀ d₀ at₀ turns₀ text samples call octets numbers packets places answers table out h d at turns = Within at × Holds h samples table
+Inv-loop fd name text₀ samples₀ call₀ octets₀ numbers₀ packets₀ places₀ answers₀ table₀ out₀ h₀ p₀ d₀ at₀ turns₀ text samples call octets numbers packets places answers table out h p d at turns = Within at × Holds h samples table
 
 abbrev μ-loop : tie.MeasureT-loop
-μ-loop fd name text₀ samples₀ call₀ octets₀ numbers₀ packets₀ places₀ answers₀ table₀ out₀ h₀ d₀ at₀ turns₀ text samples call octets numbers packets places answers table out h d at turns = turns
+μ-loop fd name text₀ samples₀ call₀ octets₀ numbers₀ packets₀ places₀ answers₀ table₀ out₀ h₀ p₀ d₀ at₀ turns₀ text samples call octets numbers packets places answers table out h p d at turns = turns
 
 unused-requires : tie.Need-unused-requires Inv-loop μ-loop
 unused-requires c κs = search needs
+
+untold-requires : tie.Need-untold-requires Inv-loop μ-loop
+untold-requires c κs = search needs
 
 empty-requires : tie.Need-empty-requires Inv-loop μ-loop
 empty-requires c κs = search needs
@@ -24,7 +27,7 @@ nothing-requires : tie.Need-nothing-requires Inv-loop μ-loop
 nothing-requires c κs = search needs
 
 loop-holds : tie.Need-loop-holds Inv-loop μ-loop
-loop-holds c = (c .nothing .ensures, c .before .before .unused .ensures)
+loop-holds c = (c .nothing .ensures, c .before .before .before .unused .ensures)
 
 goes-on-requires : tie.Need-goes-on-requires Inv-loop μ-loop
 goes-on-requires c κs = search needs
@@ -59,6 +62,9 @@ told-requires c κs = kept _ _ _ (c .before .before .before .before .before .bef
 after-requires : tie.Need-after-requires Inv-loop μ-loop
 after-requires c κs = (c .before .before .before .before .before .before .before .before .before .before .before .before .before .before .before .before .before .before .before .before .before .next .ensures, (c .before .before .before .before .before .before .before .before .before .before .before .before .before .read .ensures, c .before .before .before .before .before .before .before .before .before .before .before .before .before .before .before .before .before .before .before .before .before .before .before .before .before .before .loop .inv .1))
 
+listened-requires : tie.Need-listened-requires Inv-loop μ-loop
+listened-requires c κs = search needs
+
 became-of-requires : tie.Need-became-of-requires Inv-loop μ-loop
 became-of-requires c κs = search needs
 
@@ -66,10 +72,10 @@ tell-requires : tie.Need-tell-requires Inv-loop μ-loop
 tell-requires c κs = search needs
 
 loop-less-2 : tie.Need-loop-less-2 Inv-loop μ-loop
-loop-less-2 c = omega (arith, c .before .before .before .before .before .before .before .before .before .before .before .before .before .before .before .before .before .before .before .before .before .before .before .before .before .before .before .before .before .before .before .before .before .loop-test .taken)
+loop-less-2 c = omega (arith, c .before .before .before .before .before .before .before .before .before .before .before .before .before .before .before .before .before .before .before .before .before .before .before .before .before .before .before .before .before .before .before .before .before .before .before .before .loop-test .taken)
 
 loop-again-2 : tie.Need-loop-again-2 Inv-loop μ-loop
-loop-again-2 c = (c .before .before .before .before .before .before .before .before .before .before .before .before .before .before .before .before .before .before .before .before .before .before .before .before .before .before .before .before .before .next .ensures, c .before .before .before .before .before .before .before .after .ensures .0)
+loop-again-2 c = (c .before .before .before .before .before .before .before .before .before .before .before .before .before .before .before .before .before .before .before .before .before .before .before .before .before .before .before .before .before .before .before .before .next .ensures, c .before .before .before .before .before .before .before .before .before .before .after .ensures .0)
 
 end-requires : tie.Need-end-requires Inv-loop μ-loop
 end-requires c κs = search needs
@@ -84,6 +90,7 @@ run-lines-spec =
     Inv-loop
     μ-loop
     unused-requires
+    untold-requires
     empty-requires
     nothing-requires
     loop-holds
@@ -98,6 +105,7 @@ run-lines-spec =
     read-requires
     told-requires
     after-requires
+    listened-requires
     became-of-requires
     tell-requires
     loop-less-2

@@ -32,6 +32,12 @@ enum-told-4 c = search needs
 session-line-requires-2 : tie.Need-session-line-requires-2
 session-line-requires-2 c κs = search needs
 
+enum-told-5 : tie.Need-enum-told-5
+enum-told-5 c = search needs
+
+session-line-requires-3 : tie.Need-session-line-requires-3
+session-line-requires-3 c κs = search needs
+
 enum-known-read : tie.Need-enum-known-read
 enum-known-read c = search needs
 
@@ -51,7 +57,10 @@ returns-4 : tie.Need-returns-4
 returns-4 c = asks-other _ 2 _ (c .session-line2 .ensures) (λ e. omega arith)
 
 returns-5 : tie.Need-returns-5
-returns-5 c = search needs
+returns-5 c = asks-other _ 3 _ (c .session-line3 .ensures) (λ e. omega arith)
+
+returns-6 : tie.Need-returns-6
+returns-6 c = search needs
 
 pub read-line-spec : {M : Type 1} → statement M
 read-line-spec =
@@ -66,10 +75,13 @@ read-line-spec =
     session-line-requires
     enum-told-4
     session-line-requires-2
+    enum-told-5
+    session-line-requires-3
     enum-known-read
     stopped-requires
     returns
     returns-2
     returns-3
     returns-4
-    returns-5)
+    returns-5
+    returns-6)

@@ -7,7 +7,7 @@ use Rattle.lines.specs.Key.{keyCount}
 use Rattle.lines.specs.Name.{ends}
 use Rattle.lines.proofs.Forms.{getD-under}
 use Rattle.lines.proofs.Bounds.{small}
-use Rattle.lines.proofs.Calls.{not-read, unknown-word, unread-value, state, held, done}
+use Rattle.lines.proofs.Calls.{not-read, unknown-word, unread-value, state, radio, held, done}
 use borrow.Author.Needs.{needs}
 use Rattle.lines.proofs.call.read_named.Statement.{statement}
 use Rattle.lines.proofs.call.read_named.Tie as tie
@@ -75,6 +75,15 @@ same-length-7 c = search needs
 returns-4 : tie.Need-returns-4
 returns-4 c = state _ _ _ _ _ _ _ _ _ _ _ _ (c .before .before .before .before .before .before .before .before .before .before .before .before .before .arguments .ensures) (c .before .before .before .before .before .before .before .before .before .if1 .left) _ refl _ _ _ (c .before .before .before .before .before .before .options .ensures .0) (c .before .enum-told2 .given .1) (c .if2 .taken)
 
+same-length-8 : tie.Need-same-length-8
+same-length-8 c = search needs
+
+same-length-9 : tie.Need-same-length-9
+same-length-9 c = search needs
+
+returns-5 : tie.Need-returns-5
+returns-5 c = radio _ _ _ _ _ _ _ _ _ _ _ _ (c .before .before .before .before .before .before .before .before .before .before .before .before .before .before .arguments .ensures) (c .before .before .before .before .before .before .before .before .before .before .if1 .left) _ refl _ _ _ (c .before .before .before .before .before .before .before .options .ensures .0) (c .before .before .enum-told2 .given .1) (c .before .if2 .left) (c .if3 .taken)
+
 slice-aggregate-call-of : tie.Need-slice-aggregate-call-of
 slice-aggregate-call-of c = search needs
 
@@ -85,16 +94,16 @@ slice-aggregate-put-datagram : tie.Need-slice-aggregate-put-datagram
 slice-aggregate-put-datagram c = search needs
 
 put-datagram-requires : tie.Need-put-datagram-requires
-put-datagram-requires c κs = (search needs, search needs, small _ _ (held _ 0 0 _ [] _ _ _ _ _ _ _ (c .before .before .before .before .before .before .before .before .before .before .before .before .before .before .before .before .before .arguments .ensures) (c .before .before .before .before .before .before .before .before .before .before .before .before .before .if1 .left) _ refl _ _ _ (c .before .before .before .before .before .before .before .before .before .before .options .ensures .0) (c .before .before .before .before .before .enum-told2 .given .1)))
+put-datagram-requires c κs = (search needs, search needs, small _ _ (held _ 0 0 _ [] _ _ _ _ _ _ _ (c .before .before .before .before .before .before .before .before .before .before .before .before .before .before .before .before .before .before .arguments .ensures) (c .before .before .before .before .before .before .before .before .before .before .before .before .before .before .if1 .left) _ refl _ _ _ (c .before .before .before .before .before .before .before .before .before .before .before .options .ensures .0) (c .before .before .before .before .before .before .enum-told2 .given .1)))
 
-same-length-8 : tie.Need-same-length-8
-same-length-8 c = search needs
+same-length-10 : tie.Need-same-length-10
+same-length-10 c = search needs
 
-same-length-9 : tie.Need-same-length-9
-same-length-9 c = search needs
+same-length-11 : tie.Need-same-length-11
+same-length-11 c = search needs
 
-returns-5 : tie.Need-returns-5
-returns-5 c = done _ _ _ _ _ _ _ _ _ _ _ _ (c .before .before .before .before .before .before .before .before .before .before .before .before .before .before .before .before .before .before .before .before .arguments .ensures) (c .before .before .before .before .before .before .before .before .before .before .before .before .before .before .before .before .if1 .left) _ refl _ _ _ (c .before .before .before .before .before .before .before .before .before .before .before .before .before .options .ensures .0) (c .before .before .before .before .before .before .before .before .enum-told2 .given .1) (c .before .before .before .before .before .before .before .if2 .left) (c .before .before .before .before .before .before .before .before .before .before .before .before .before .before .before .before .before .before .before .before .before .before .before .before .before .before .fits .ip .fits) _ _ (c .before .before .before .before .before .call-of .ensures) (c .before .before .put-datagram .ensures)
+returns-6 : tie.Need-returns-6
+returns-6 c = done _ _ _ _ _ _ _ _ _ _ _ _ (c .before .before .before .before .before .before .before .before .before .before .before .before .before .before .before .before .before .before .before .before .before .arguments .ensures) (c .before .before .before .before .before .before .before .before .before .before .before .before .before .before .before .before .before .if1 .left) _ refl _ _ _ (c .before .before .before .before .before .before .before .before .before .before .before .before .before .before .options .ensures .0) (c .before .before .before .before .before .before .before .before .before .enum-told2 .given .1) (c .before .before .before .before .before .before .before .before .if2 .left) (c .before .before .before .before .before .before .before .if3 .left) (c .before .before .before .before .before .before .before .before .before .before .before .before .before .before .before .before .before .before .before .before .before .before .before .before .before .before .before .fits .ip .fits) _ _ (c .before .before .before .before .before .call-of .ensures) (c .before .before .put-datagram .ensures)
 
 pub read-named-spec : {M : Type 1} → statement M
 read-named-spec =
@@ -121,10 +130,13 @@ read-named-spec =
     same-length-6
     same-length-7
     returns-4
+    same-length-8
+    same-length-9
+    returns-5
     slice-aggregate-call-of
     call-of-requires
     slice-aggregate-put-datagram
     put-datagram-requires
-    same-length-8
-    same-length-9
-    returns-5)
+    same-length-10
+    same-length-11
+    returns-6)

@@ -1,0 +1,2 @@
+-- The laws of `calls`.
+pub mod Listens

@@ -1,0 +1,2 @@
+-- The definitions that the contracts of `calls` cite.
+pub mod Practised
