@@ -14,9 +14,11 @@ from math import ceil, floor
 
 from ieee import NAN, SPECIAL, TOP, add, around, bits, div, even, less, mul, nearest, negated, of, of_bits, signed
 from lines import line, pattern, put, title, word
+from rates import doubled
 
 MOST = 2**64 - 1
-RATES = [48000, 96000, 192000, 384000, 768000, 1536000]
+# more than are accepted: these functions take any rate
+RATES = doubled(48000, 5)
 
 
 # What the functions are to give.

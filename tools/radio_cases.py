@@ -10,6 +10,7 @@ import random
 
 from lines import line, put, title, word
 from part_cases import parsed
+from rates import KHZ
 from wire_cases import general, high, receive, transmit
 
 U32 = 2**32
@@ -30,7 +31,6 @@ FIELDS = [
 ]
 FIXED = [{37: 8, 38: 1}, {7: 1, 22: 24}, {4: 1}, {}]
 RUN, DDC_PHASE, DUC_PHASE, ATTENUATION, RATE = 4, 9, 329, 1443, 18
-RATES = [48, 96, 192, 384]
 
 KEPT = [[i for at, wide in fields for i in range(at, at + wide)] for fields in FIELDS]
 BEFORE = [sum(map(len, KEPT[:stream])) for stream in STREAMS]
@@ -46,7 +46,7 @@ def is_wrong(stream, p):
     if any(v != FIXED[stream].get(i, 0) for i, v in enumerate(p) if i not in KEPT[stream]):
         return True
     if stream == RECEIVE:
-        return p[RATE] * 256 + p[RATE + 1] not in RATES
+        return p[RATE] * 256 + p[RATE + 1] not in KHZ
     if stream == HIGH:
         return p[RUN] not in [0, 1] or p[DDC_PHASE:][:4] != p[DUC_PHASE:][:4] or p[ATTENUATION] > 31
     return False
@@ -125,9 +125,9 @@ def fixed():
 
 def values():
     title('read_command: rates')
-    wrong = [0, 1, 24, 47, 49, 95, 97, 128, 191, 193, 256, 383, 385, 768, 1536, 48 * 256, 65535]
-    for khz in RATES + wrong:
-        heard(RECEIVE, put(USUAL[RECEIVE], RATE, 2, khz), f'{khz} kHz', None if khz in RATES else 21)
+    near = [khz + k for khz in KHZ for k in [0, -1, 1]]
+    for khz in [*near, 0, 1, 24, 128, 144, 256, 2 * KHZ[-1], 4 * KHZ[-1], 48 * 256, 65535]:
+        heard(RECEIVE, put(USUAL[RECEIVE], RATE, 2, khz), f'{khz} kHz', None if khz in KHZ else 21)
     title('read_command: run')
     for v in [0, 1, 2, 3, 128, 129, 255]:
         heard(HIGH, put(USUAL[HIGH], RUN, 1, v), f'run {v}', None if v < 2 else 21)
@@ -162,7 +162,7 @@ def free():
 def drawn(r):
     """A packet of the host's for each stream, and the values that it was made from, in the order in which they are kept."""
     count = [r.choice([0, U32 - 1, r.getrandbits(32)]) for _ in STREAMS]
-    adcs, enable, khz, db, run = r.getrandbits(8), r.getrandbits(8), r.choice(RATES), r.randrange(32), r.randrange(2)
+    adcs, enable, khz, db, run = r.getrandbits(8), r.getrandbits(8), r.choice(KHZ), r.randrange(32), r.randrange(2)
     phase, alex0, alex1 = [r.getrandbits(32) for _ in range(3)]
     packets = [general(count[0], adcs, enable), receive(count[1], adcs, enable, khz), transmit(count[2])]
     packets += [high(count[3], run, phase, alex0, alex1, db)]

@@ -9,11 +9,11 @@ slot is None or what it holds. It shares nothing with the definitions or the cod
 from double_cases import MOST, account_time, below_half, covered_time, jump_limit, restart_missing
 from ieee import bits, of
 from lines import line, pattern, title, word
+from rates import HZ
 from wire_cases import GAP, IN_ORDER, RESTART, STALE, observe
 
 SECOND = 10**9
 PAUSE = 100000000
-RATES = [48000, 96000, 192000, 384000]
 U32, U64 = 2**32, 2**64
 
 
@@ -57,7 +57,7 @@ def elapsed_times():
         of_elapsed(SECOND + k, (0, 48000, 5), 3 * SECOND, 'about where the two times are equal')
         of_elapsed(3 * SECOND, (0, 48000 * 3 + k, 5), 3 * SECOND, 'about where the account is all of it')
         of_elapsed(3 * SECOND, (3 * SECOND + k, 0, 5), 3 * SECOND, 'about the anchor')
-    for rate in RATES:
+    for rate in HZ:
         of_elapsed(5 * SECOND, (SECOND, rate * 3, 1), 5 * SECOND, 'three seconds of the rate', rate)
     of_elapsed(30000, (0, 1, 1), 30000, 'one sample is 20833 ns')
     # 7812.5 ns as a fraction, but the double's seconds lie above it
@@ -178,7 +178,7 @@ def outages():
     # 4 s at 48 kHz are 806.7 datagrams
     for n in [806, 807]:
         of_outage(PARKED, [101 + n - 1], f'{n} datagrams of four seconds')
-    for rate in RATES:
+    for rate in HZ:
         of_outage(PARKED, [101, 102], 'two datagrams', rate)
 
 
@@ -218,7 +218,7 @@ def reports():
     assert reported(48000, GAP, 100, 0, (None, None), (0, 0, 0)) == ((23800, None), (100, 1, 0), 23800)
     assert reported(48000, GAP, 101, 0, (None, None), (0, 0, 0)) == ((None, 24038), (101, 1, 0), 24038)
     assert reported(48000, RESTART, 0, SECOND, (None, None), (0, 0, 0)) == ((None, 47762), (0, 1, 0), 47762)
-    for rate, k in zip(RATES, [100, 201, 403, 806]):
+    for rate, k in zip(HZ, [100, 201, 403, 806]):
         assert below_half(238 * k, of(rate)) and not below_half(238 * (k + 1), of(rate))
         of_report(GAP, k, SECOND, 'the largest below half the rate', rate)
         of_report(GAP, k + 1, SECOND, 'one more', rate)

@@ -12,6 +12,7 @@ from math import floor
 
 from ieee import NAN, TOP, around, bits, div, less, mul, of, of_bits
 from lines import line, pattern, put, title, word
+from rates import HZ, KHZ
 
 U32 = 2**32
 CLOCK = 122880000
@@ -29,7 +30,7 @@ def phase_word(x):
 
 
 def rate_khz(x):
-    return next((khz for khz in [48, 96, 192, 384] if x == of(khz * 1000)), 'r:3')
+    return next((khz for khz, hz in zip(KHZ, HZ) if x == of(hz)), 'r:3')
 
 
 def of_phase(b, why=''):
@@ -81,17 +82,18 @@ def other_order(r):
 
 
 def rates():
-    title('rate_khz: the four, the doubles beside them, and other rates')
-    near = [p for khz in [48, 96, 192, 384] for p in around(khz * 1000, f'{khz} kHz')]
-    other = [(bits(of(v)), f'{v} Hz') for v in [48, 384, 24000, 47999, 48001, 768000, 1536000, -48000, 48000 + U32]]
-    other += [(bits(of(khz * 1000 + k)), f'{khz} kHz, {k:+d} Hz') for khz in [96, 192, 384] for k in [-1, 1]]
+    title('rate_khz: the accepted rates, half the lowest and twice the highest, each with the doubles beside it, and other rates')
+    near = [p for hz in [*HZ, 24000, 2 * HZ[-1]] for p in around(hz, f'{hz} Hz')]
+    other = [(bits(of(v)), f'{v} Hz') for v in [48, 384, 144000, 4 * HZ[-1], 48000 + U32, -24000] + [-hz for hz in HZ]]
+    other += [(bits(of(hz + k)), f'{hz} Hz, {k:+d}') for hz in HZ for k in [-1, 1]]
     other += [(0, 'zero'), (TOP, 'minus zero'), (NO_NUMBER, 'NaN'), (INFINITY, 'infinity'), (TOP + INFINITY, 'minus infinity')]
+    other += [(1, 'smallest subnormal'), (INFINITY - 1, 'largest')]
     for b, why in near + other:
         line('rate_khz', [pattern(b)], rate_khz(of_bits(b)), why)
-    title('is_rate_khz: the four, the numbers beside them, and others')
-    near = [khz + k for khz in [48, 96, 192, 384] for k in [-1, 0, 1]]
-    for khz in [*near, 0, 1, 24, 144, 480, 768, 1536, 48 * 256, 48000, 65535]:
-        line('is_rate_khz', [str(khz)], int(rate_khz(of(khz * 1000)) == khz))
+    title('is_rate_khz: the accepted rates, the numbers beside them, and others')
+    near = [khz + k for khz in KHZ for k in [-1, 0, 1]]
+    for khz in [*near, 0, 1, 24, 144, 480, 2 * KHZ[-1], 4 * KHZ[-1], 48 * 256, 48000, 65535]:
+        line('is_rate_khz', [str(khz)], int(khz in KHZ))
 
 
 # Boards and filters: the Rust's table and ladders.
@@ -281,8 +283,8 @@ def worked():
     title("packets of 01's own values: each ADC count and filter enable of the boards, each rate")
     for adcs, enable in sorted({b[:2] for b in BOARDS.values()}):
         sent('general_packet', general, (1, adcs, enable), 60)
-    for adcs, khz in [(1, 48), (2, 96), (1, 192), (2, 384)]:
-        sent('rx_specific_packet', receive, (1, adcs, 1, khz), 1444)
+    for n, khz in enumerate(KHZ):
+        sent('rx_specific_packet', receive, (1, 1 + n % 2, 1, khz), 1444)
     title('the high priority packet of a Classic board at 7,000,000 Hz, by attenuation and run; at either end of the centres')
     for db in [0, 6, 30]:
         sent('high_priority_packet', high, (1, 1, 244667733, 0x00200020, 0x00200000, db), 1444)

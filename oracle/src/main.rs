@@ -10,6 +10,7 @@ mod local_bind;
 mod octets;
 mod radio;
 mod random;
+mod rates;
 mod script;
 mod socket;
 mod socket2;

@@ -47,7 +47,12 @@ const LAYOUTS: [Layout; 4] = [
     },
 ];
 
-const RATES: [u64; 4] = [48, 96, 192, 384];
+/// How often 48 kHz may be doubled (2026-03).
+const MOST_DOUBLINGS: u32 = 3;
+
+fn is_rate(khz: u64) -> bool {
+    (0..=MOST_DOUBLINGS).any(|n| khz == 48 << n)
+}
 
 impl Layout {
     /// The fields of a packet, None where its length or an octet that is no field's is wrong.
@@ -73,7 +78,7 @@ impl Layout {
 /// Whether a stream's fields have values that they can have.
 fn can_be(stream: usize, fields: &[u64]) -> bool {
     match (stream, fields) {
-        (1, [_, _, rate]) => RATES.contains(rate),
+        (1, [_, _, rate]) => is_rate(*rate),
         (3, [_, run, rx, tx, _, _, attenuation]) => *run <= 1 && rx == tx && *attenuation <= 31,
         _ => true,
     }

@@ -13,8 +13,7 @@ use Rattle.octets.specs.Written.{written}
 use Rattle.double.specs.Whole.{natOf, rounded, isWhole}
 use Rattle.double.specs.Seconds.{secondsOf}
 use Rattle.stream.specs.Elapsed.{plausible, jumpLimit, restartMissing}
-use Rattle.base.specs.Search.{first}
-use Rattle.tuning.specs.Rate.{rateAt, isRate}
+use Rattle.tuning.specs.Rate.{isDoubled, isRate}
 use Rattle.tuning.specs.Centre.{wholeCentre, belowNyquist}
 use Rattle.iq.specs.Iq.{headerTold, rows}
 use Rattle.iq.specs.Iq as Iq
@@ -50,7 +49,7 @@ use Rattle.model.specs.Lists.{usual, datagram, silence}
 use Rattle.account.proofs.Lists.{plain, arrive, noise, readAt}
 
 pub usual-accepted : T (accepts usual)
-unfolding accepts settingsTold pick isRate rateAt first eq ofInt wholeCentre belowNyquist isWhole lt
+unfolding accepts settingsTold pick isRate isDoubled eq ofInt wholeCentre belowNyquist isWhole lt
 usual-accepted = tt
 
 near : (e n : ℤ) → behind (n -ℤ e) ≤ 2 ^ 31 → ahead (n -ℤ e) < 2 ^ 31 → Near e n
@@ -98,7 +97,7 @@ abbrev late : (_≡_ {A = ℕ} 100 100) × Near (pos 101) (pos 100)
 late = (refl, near (pos 101) (pos 100) (omega arith) (omega arith))
 
 pub refuted : Refuted
-unfolding pick accepts settingsTold isRate rateAt first eq ofInt wholeCentre belowNyquist isWhole lt opened newSession newCommon newReceiver step
+unfolding pick accepts settingsTold isRate isDoubled eq ofInt wholeCentre belowNyquist isWhole lt opened newSession newCommon newReceiver step
     begin begunBy orAt begun refilled arrival arrived routed byOffset headerTold rows heardIq heardAs hear eventOf capped observed meant less after zeroRestarts
     elapsed jumpLimit plausible natOf secondsOf add mul div waits left Hearing.acceptedBy used missingOf takeOut handOut handed fits fitsAbove fitsBelow
     restartMissing rounded sub outage restartOf waitingIn close stop leftOut heardMalformed oneMore

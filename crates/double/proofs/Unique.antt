@@ -71,7 +71,8 @@ same-parts m n (negsuc i) (pos j) o p h =
 same-parts m n (negsuc i) (negsuc j) o p h =
     let r = odd-pow m n (suc j) (suc i) o p (sym (ap (λ (z : ℕ). z * 2 ^ suc j) (mul-one m)) ∙ h ∙ ap (λ (z : ℕ). z * 2 ^ suc i) (mul-one n)) in (r .0, ap (λ (z : ℕ). negsuc (Prim.Native.Nat.pred z)) (sym (r .1)))
 
-cross : (x y p q a c : ℕ) → 0 < c → x * c ≡ a * p → y * c ≡ a * q → x * q ≡ y * p
+-- two fractions that are alike, crosswise
+pub cross : (x y p q a c : ℕ) → 0 < c → x * c ≡ a * p → y * c ≡ a * q → x * q ≡ y * p
 cross x y p q a c C h k =
     eq-of-mul-eq-mul-right c C (x * q) (y * p)
     (mul-right-comm x q c ∙ ap (λ (z : ℕ). z * q) h ∙ mul-right-comm a p q ∙ ap (λ (z : ℕ). z * p) (sym k) ∙ mul-right-comm y c p)

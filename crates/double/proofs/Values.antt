@@ -3,8 +3,8 @@ use mathlib.Core.Path.{_≡_, refl, sym, ap, _∙_, subst}
 use Prim.Native.Nat.{ℕ, _-_, _*_, _/_, _^_, _≤_, _<_, min}
 use native.Mathlib.Nat.{mul-one, mul-comm, mul-assoc, mul-right-comm, mul-pos, mul-sub, mul-mul-mul-comm, zero-lt-suc, not-le-of-lt, mul-le-mul-right, mul-lt-mul-of-pos-right, lt-of-mul-lt-mul-right, lt-of-le-of-lt, lt-of-lt-of-le, le-of-eq, div-one, zero-mul, lt-irrefl, eq-of-mul-eq-mul-right}
 use native.Mathlib.Omega.{arith}
-use borrow.Author.Tests.{ne-eqb}
-use mathlib.Core.Bool.{Bool, true, false, not, cond, true≢false}
+use borrow.Author.Tests.{ne-eqb, eq-eqb}
+use mathlib.Core.Bool.{Bool, true, false, not, cond, true≢false, _&&_}
 use lib.IntN.{ℤ, pos}
 use lib.Dec.{T, ltb, eqb, eqb→eq, ltb→lt, nltb→le, lt→ltb}
 use lib.Ieee.{Float, nan, inf, fin, Format, prec, up, down, round, sum, sub, mul, div, lt, eq, ofInt, unlike}
@@ -18,6 +18,7 @@ use Rattle.double.proofs.Orders.{bool-ext}
 use Rattle.double.proofs.Zeros.{factor-zero}
 use Rattle.double.proofs.Plain.{plain, of-value}
 use Rattle.double.proofs.Signs.{minus?}
+use Rattle.double.proofs.Unique.{cross}
 use Rattle.double.proofs.Floors.{cut-of-value, cast-is-floor}
 
 -- ---- the floor
@@ -170,6 +171,14 @@ lt-of-values x y a c b d C D v w = of-values lt (ltb (a * d) (b * c)) false a c 
         bool-ext (ltb (m * up e * down g) (n * up g * down e)) (ltb (a * d) (b * c))
         (λ t. lt→ltb (a * d) (b * c) (crossed (m * up e) (down e) (n * up g) (down g) a c b d C D v w (ltb→lt (m * up e * down g) (n * up g * down e) t)))
         (λ t. lt→ltb (m * up e * down g) (n * up g * down e) (crossed a c b d (m * up e) (down e) (n * up g) (down g) (down-pos e) (down-pos g) (sym v) (sym w) (ltb→lt (a * d) (b * c) t)))
+
+-- two that have one value are equal
+pub eq-of-value : (x y : Float) (a c : ℕ) → 0 < c → HasValue x false a c → HasValue y false a c → eq x y ≡ true
+unfolding eq
+eq-of-value x y a c C v w = of-values eq true false a c a c same x y v w
+  where
+    same : (m : ℕ) (e : ℤ) (n : ℕ) (p : ℤ) → m * up e * c ≡ a * down e → n * up p * c ≡ a * down p → eq (fin false m e) (fin false n p) ≡ true
+    same m e n p v w = ap (λ (t : Bool). t && true) (eq-eqb (m * up e * down p) (n * up p * down e) (cross (m * up e) (n * up p) (down e) (down p) a c C v w))
 
 -- what equals a value above 0 has it; a 0 equals one of the other sign
 pub value-of-eq : (x y : Float) (a c : ℕ) → 0 < a → 0 < c → HasValue x false a c → eq x y ≡ true → HasValue y false a c

@@ -16,8 +16,7 @@ use Rattle.base.specs.Pick.{pick}
 use Rattle.double.specs.Whole.{natOf, rounded, isWhole}
 use Rattle.double.specs.Seconds.{secondsOf}
 use Rattle.stream.specs.Elapsed.{plausible, jumpLimit, restartMissing, belowHalf}
-use Rattle.base.specs.Search.{first}
-use Rattle.tuning.specs.Rate.{rateAt, isRate, khzOf}
+use Rattle.tuning.specs.Rate.{isDoubled, isRate, khzOf}
 use Rattle.tuning.specs.Centre.{wholeCentre, belowNyquist}
 use Rattle.iq.specs.Iq.{headerTold, rows}
 use Rattle.sequence.specs.Tracker as Sequence
@@ -32,7 +31,7 @@ use Rattle.model.specs.Take.{handed, handOut, takeOut}
 use Rattle.model.specs.Drain.{takeMissing, takeDiscontinuity}
 
 session-edges : Hold sessionEdges
-unfolding pick accepts settingsTold isRate rateAt first khzOf eq ofInt wholeCentre belowNyquist isWhole lt opened newSession newCommon newReceiver step
+unfolding pick accepts settingsTold isRate isDoubled khzOf eq ofInt wholeCentre belowNyquist isWhole lt opened newSession newCommon newReceiver step
     begin begunBy orAt begun refilled arrival arrived routed byOffset headerTold rows heardIq heardAs hear eventOf capped
     Sequence.observed Sequence.meant Sequence.less Sequence.after Sequence.zeroRestarts elapsed jumpLimit plausible natOf secondsOf add mul div waits left acceptedBy leftOut used missingOf
     takeOut handOut handed restartMissing rounded sub outage restartOf pendingAfter added belowHalf takeMissing takeDiscontinuity round

@@ -15,7 +15,7 @@ use Rattle.base.specs.Told.{gives}
 use Rattle.base.proofs.Picks.{pick-either}
 use Rattle.tuning.specs.Rate.{isRate, khzOf}
 use Rattle.tuning.specs.declared.board.BoardInfo.{BoardInfo}
-use Rattle.tuning.proofs.Rates.{rate-most, khz-again}
+use Rattle.tuning.proofs.Rates.{khz-fits, khz-again}
 use Rattle.tuning.proofs.Widths.{phase-small, alex-small}
 use Rattle.wire.specs.Command.{offsetOf, sizeOf}
 use Rattle.wire.specs.Packet.{generalPacket, rxPacket, highPacket}
@@ -95,7 +95,7 @@ module _ (s : Settings) where
     packet-read c h RxSpecific run r =
         ap (λ (x : Settings). commandRead r RxSpecific (rxPacket (countOf RxSpecific c) (x .board) (c .tuning .«rate_khz»))) (h .settings)
         ∙ ap (λ (t : Tuning). commandRead r RxSpecific (rxPacket (countOf RxSpecific c) (s .board) (t .«rate_khz»))) (h .tuning)
-        ∙ rx-read r (countOf RxSpecific c) (h .counts 1) (s .board) (khzOf (s .«sample_rate_hz»)) (oct .adcs) (omega (arith, rate-most (s .«sample_rate_hz») rate-is)) (khz-again (s .«sample_rate_hz») rate-is)
+        ∙ rx-read r (countOf RxSpecific c) (h .counts 1) (s .board) (khzOf (s .«sample_rate_hz»)) (oct .adcs) (khz-fits (s .«sample_rate_hz») rate-is) (khz-again (s .«sample_rate_hz») rate-is)
     packet-read c h TxSpecific run r = tx-read r (countOf TxSpecific c) (h .counts 2)
     packet-read c h HighPriority run r =
         let alex = alex-small (s .board .scheme) (s .«center_freq_hz») in

@@ -4,6 +4,7 @@ pub mod Boards
 pub mod Rungs
 pub mod Phases
 pub mod Centres
+pub mod Doublings
 pub mod Rates
 pub mod Edges
 pub mod Widths

@@ -1,50 +1,119 @@
--- The rate table: the code's test of an entry, what it answers, and that an accepted rate is that whole number of Hz. Assumes nothing.
-use mathlib.Core.Path.{_≡_, sym, ap, _∙_, subst}
-use Prim.Native.Nat.{ℕ, _*_, _≤_, _<_}
-use native.Mathlib.Nat.{le-trans, mul-pos, zero-lt-suc}
+-- The rates: that the lowest doubled none to the most times passes, and nothing else; that an accepted rate is that whole number of
+-- Hz; what is answered, and what the code's loop keeps. Assumes nothing.
+use mathlib.Core.Path.{_≡_, refl, sym, ap, _∙_, subst}
+use Prim.Native.Nat.{ℕ, zero, suc, _-_, _*_, _/_, _^_, _≤_, _<_}
+use native.Mathlib.Nat.{le-trans, le-of-eq, le-mul-of-pos-right, mul-pos, mul-le-mul-left, pow-le-pow-right, zero-lt-suc, not-suc-le-zero}
 use native.Mathlib.Omega.{arith}
-use mathlib.Core.Bool.{Bool, true, false, _&&_}
+use mathlib.Core.Bool.{true, false}
 use mathlib.Core.List.{List, [], _∷_}
-use borrow.Author.Tests.{ltb-false, lt-ltb, le-ltb}
-use lib.ListN.{length, getD, List·getD-eq-default}
-use lib.Dec.{T, ltb, leb, ltb→lt, leb→le, lit≤}
+use mathlib.Core.Logic.{_↔_}
+use lib.Pow.{pow-pos}
+use lib.Dec.{T, lit≤, lit<}
 use lib.IntN.{pos}
-use lib.Ieee.{Float, fin, binary64, ofInt, mul, eq}
+use lib.Ieee.{Float, fin, binary64, ofInt, mul}
 use lib.Ieee.Bits.{is-true}
-use lib.Ieee.Fits.{and-l, and-r}
 use lib.Ieee.Exact.{HasValue}
 use lib.Ieee.Back.{round-whole}
-use Rattle.base.proofs.Picks.{pick-t, pick-f, pick-either}
-use Rattle.double.proofs.Values.{mul-whole, value-of-eq}
-use Rattle.base.specs.Pick.{pick}
+use lib.Ieee.Positive.{first-pos}
 use Rattle.base.specs.Told.{Told, gives, refused}
-use Rattle.base.specs.Search.{first}
-use Rattle.tuning.specs.Rate.{rates, isKhz, rateAt, isRate, khzOf, isRateKhz, rateTold}
-use Rattle.base.proofs.Searches.{every, first-holds, every-at}
+use Rattle.base.proofs.Picks.{pick-t, pick-f, pick-either}
+use Rattle.double.proofs.Values.{mul-whole, eq-of-value, value-of-eq, floor-of-whole}
+use Rattle.tuning.specs.Rate.{lowestRate, mostDoublings, isHz, isDoubled, isRate, khzOf, isRateKhz, rateTold, Doubled}
+use Rattle.tuning.proofs.Doublings.{twice, once, none-left, later, found, often}
 
--- ---- the entries: above 0, and none above 384
-listed : ℕ → Bool
-listed khz = ltb 0 khz && leb khz 384
+-- ---- the lowest rate doubled n times: above 0, and no more than the highest. What is asked of the highest is computed
 
-all-listed : (i : ℕ) → i < length rates → T (listed (getD rates i 0))
-unfolding listed
-all-listed = every-at listed rates 0 tt
+abbrev pub highest : ℕ
+highest = lowestRate * 2 ^ mostDoublings
 
-some-khz : (i : ℕ) → i < length rates → 0 < getD rates i 0
-unfolding listed
-some-khz i h = ltb→lt 0 (getD rates i 0) (and-l (ltb 0 (getD rates i 0)) (leb (getD rates i 0) 384) (all-listed i h))
+some-hz : (n : ℕ) → 0 < lowestRate * 2 ^ n
+some-hz n = mul-pos (lit< tt) (pow-pos n)
 
-most-khz : (i : ℕ) → i < length rates → getD rates i 0 ≤ 384
-unfolding listed
-most-khz i h = leb→le (getD rates i 0) 384 (and-r (ltb 0 (getD rates i 0)) (leb (getD rates i 0) 384) (all-listed i h))
+most-hz : (n : ℕ) → n ≤ mostDoublings → lowestRate * 2 ^ n ≤ highest
+most-hz n h = mul-le-mul-left lowestRate (pow-le-pow-right (zero-lt-suc 1) h)
 
--- ---- the code's test of an entry: the kHz as a double times 1000.0, which is exact
-pub tested : (x : Float) (i : ℕ) → i < length rates → eq (mul binary64 (ofInt binary64 (pos (getD rates i 0))) (fin false 125 (pos 3))) x ≡ isKhz x (getD rates i 0)
-unfolding ofInt
-tested x i h = ap (λ (y : Float). eq y x) (mul-whole binary64 (getD rates i 0) 1000 (le-trans (most-khz i h) (lit≤ tt)) (lit≤ tt))
+-- up to the highest, so many Hz are a double, and their kHz fit the field of a receive packet
+module _ (hz : ℕ) (most : hz ≤ highest) where
+  of-hz : HasValue (ofInt binary64 (pos hz)) false hz 1
+  unfolding ofInt
+  of-hz = round-whole binary64 false hz (le-trans most (lit≤ tt))
+
+  hz-value : (x : Float) → 0 < hz → isHz hz x ≡ true → HasValue x false hz 1
+  hz-value x some e = value-of-eq (ofInt binary64 (pos hz)) x hz 1 some (zero-lt-suc 0) of-hz e
+
+  value-hz : (x : Float) → HasValue x false hz 1 → isHz hz x ≡ true
+  value-hz x v = eq-of-value (ofInt binary64 (pos hz)) x hz 1 (zero-lt-suc 0) of-hz v
+
+  value-khz : (x : Float) → HasValue x false hz 1 → khzOf x ≡ hz / 1000
+  unfolding khzOf
+  value-khz x v = ap (λ (z : ℕ). z / 1000) (floor-of-whole x hz (le-trans most (lit≤ tt)) v)
+
+  pub small-khz : hz / 1000 < 2 ^ 16
+  small-khz = few highest most (lit< tt)
+    where
+      few : (h : ℕ) → hz ≤ h → h < 65536000 → hz / 1000 < 65536
+      few h l m = omega arith
+
+-- ---- what passes is the lowest rate doubled so often, and its kHz are 48 doubled as often
+
+module _ (x : Float) (n : ℕ) (d : Doubled x n) where
+  pub doubled-passes : isRate x ≡ true
+  unfolding isRate
+  doubled-passes = found x mostDoublings lowestRate n (d .few) (value-hz (lowestRate * 2 ^ n) (most-hz n (d .few)) x (d .value))
+
+  pub doubled-khz : khzOf x ≡ 48 * 2 ^ n
+  doubled-khz = value-khz (lowestRate * 2 ^ n) (most-hz n (d .few)) x (d .value) ∙ over (2 ^ n)
+    where
+      over : (p : ℕ) → 48000 * p / 1000 ≡ 48 * p
+      over p = omega arith
+
+  pub doubled-told : rateTold x ≡ gives (48 * 2 ^ n ∷ [])
+  unfolding rateTold
+  doubled-told = pick-t _ _ _ doubled-passes ∙ ap (λ (k : ℕ). gives (k ∷ [])) doubled-khz
+
+pub doublings : (x : Float) → isRate x ≡ true → (n : ℕ) × Doubled x n
+unfolding isRate
+doublings x t =
+    let r = often x mostDoublings lowestRate t in
+    (r .0, record { few = r .1; value = hz-value (lowestRate * 2 ^ r .0) (most-hz (r .0) (r .1)) x (some-hz (r .0)) (r .2) })
+
+pub rate-exactly : (x : Float) → (isRate x ≡ true) ↔ ((n : ℕ) × Doubled x n)
+rate-exactly x = (doublings x, λ d. doubled-passes x (d .0) (d .1))
+
+pub else-told : (x : Float) → ((n : ℕ) → Doubled x n → ⊥) → rateTold x ≡ refused 3 []
+unfolding rateTold
+else-told x never =
+    pick-either (isRate x) _ _ (λ (t : Told). t ≡ refused 3 []) (λ b. let d = doublings x b in absurd (never (d .0) (d .1))) (λ b. refl)
+
+-- ---- an accepted rate
+module _ (x : Float) (t : T (isRate x)) where
+  abbrev doubled : (n : ℕ) × Doubled x n
+  doubled = doublings x (is-true (isRate x) t)
+
+  thousands : khzOf x * 1000 ≡ lowestRate * 2 ^ doubled .0
+  thousands = ap (λ (z : ℕ). z * 1000) (doubled-khz x (doubled .0) (doubled .1)) ∙ over (2 ^ doubled .0)
+    where
+      over : (p : ℕ) → 48 * p * 1000 ≡ 48000 * p
+      over p = omega arith
+
+  -- it is that whole number of Hz
+  pub rate-whole : HasValue x false (khzOf x * 1000) 1
+  rate-whole = subst (λ (z : ℕ). HasValue x false z 1) (sym thousands) (doubled .1 .value)
+
+  pub khz-fits : khzOf x < 2 ^ 16
+  khz-fits =
+      let most = most-hz (doubled .0) (doubled .1 .few) in
+      subst (λ (z : ℕ). z < 2 ^ 16) (sym (value-khz (lowestRate * 2 ^ doubled .0) most x (doubled .1 .value))) (small-khz (lowestRate * 2 ^ doubled .0) most)
+
+  -- what is written for it is accepted where it is read
+  pub khz-again : isRateKhz (khzOf x) ≡ true
+  unfolding isRateKhz
+  khz-again =
+      ap (λ (z : ℕ). isRate (ofInt binary64 (pos z))) thousands
+      ∙ doubled-passes (ofInt binary64 (pos (lowestRate * 2 ^ doubled .0))) (doubled .0)
+      (record { few = doubled .1 .few; value = of-hz (lowestRate * 2 ^ doubled .0) (most-hz (doubled .0) (doubled .1 .few)) })
 
 -- ---- a receive packet's field: so many kHz, as the code tests them
-
 pub field-tested : (khz : ℕ) → khz < 65536 → isRate (mul binary64 (ofInt binary64 (pos khz)) (fin false 125 (pos 3))) ≡ isRateKhz khz
 unfolding isRateKhz ofInt
 field-tested khz h = ap isRate (mul-whole binary64 khz 1000 (le-trans (small khz h) (lit≤ tt)) (lit≤ tt))
@@ -52,25 +121,20 @@ field-tested khz h = ap isRate (mul-whole binary64 khz 1000 (le-trans (small khz
     small : (k : ℕ) → k < 65536 → k ≤ 65536
     small k h = omega arith
 
-all-fields : T (every isRateKhz rates)
-unfolding isRateKhz isRate rateAt first pick ofInt eq
-all-fields = tt
-
 -- ---- the answers
+
+told-khz : (x : Float) → isRate x ≡ true → gives (khzOf x ∷ []) ≡ rateTold x
+unfolding rateTold
+told-khz x t = sym (pick-t _ _ _ t)
+
+told-none : (x : Float) → isRate x ≡ false → refused 3 [] ≡ rateTold x
+unfolding rateTold
+told-none x t = sym (pick-f _ _ _ t)
 
 no-told : {A : Type 0} (k : ℕ) (vs : List ℕ) → gives (k ∷ []) ≡ refused 3 vs → A
 no-told k vs h = let z : _≡_ {A = ℕ} 0 1 = cc in absurd (omega arith)
 
-pub told-khz : (x : Float) (i : ℕ) → i < length rates → i ≡ first (isKhz x) rates → gives (getD rates i 0 ∷ []) ≡ rateTold x
-unfolding rateAt isRate khzOf rateTold
-told-khz x i h e =
-    sym (pick-t _ _ _ (lt-ltb (rateAt x) 4 (subst (λ (k : ℕ). k < 4) e h)) ∙ ap (λ (k : ℕ). gives (getD rates k 0 ∷ [])) (sym e))
-
-pub told-none : (x : Float) (i : ℕ) → length rates ≤ i → i ≡ first (isKhz x) rates → refused 3 [] ≡ rateTold x
-unfolding rateAt isRate khzOf rateTold
-told-none x i h e = sym (pick-f _ _ _ (le-ltb (rateAt x) 4 (subst (λ (k : ℕ). 4 ≤ k) e h)))
-
--- the other way round: a rate that is given is accepted, and so many kHz; one that is refused is none, and 0
+-- the other way round: a rate that is given is accepted, and so many kHz; one that is refused is none
 pub given-khz : (x : Float) (khz : ℕ) → gives (khz ∷ []) ≡ rateTold x → (isRate x ≡ true) × (khz ≡ khzOf x)
 unfolding rateTold
 given-khz x khz = pick-either (isRate x) _ _ (λ (t : Told). gives (khz ∷ []) ≡ t → (isRate x ≡ true) × (khz ≡ khzOf x)) (λ b h. (b, cc)) (λ b h. no-told khz _ h)
@@ -79,30 +143,28 @@ pub refused-rate : (x : Float) → refused 3 [] ≡ rateTold x → isRate x ≡ 
 unfolding rateTold
 refused-rate x = pick-either (isRate x) _ _ (λ (t : Told). refused 3 [] ≡ t → isRate x ≡ false) (λ b h. no-told _ _ (sym h)) (λ b h. b)
 
-pub refused-khz : (x : Float) → refused 3 [] ≡ rateTold x → khzOf x ≡ 0
-unfolding isRate khzOf
-refused-khz x h = List·getD-eq-default rates 0 (ltb-false (rateAt x) (length rates) (refused-rate x h))
+-- ---- what the code's loop keeps: so many Hz, doubled as often as is left, are the highest; and a rate that passes is among these
+abbrev pub Going : Float → ℕ → ℕ → Type 0
+Going x hz left = (hz * 2 ^ left ≡ highest) × (isRate x ≡ isDoubled left hz x)
 
--- ---- an accepted rate
-module _ (x : Float) (t : T (isRate x)) where
-  within : rateAt x < length rates
-  unfolding isRate
-  within = ltb→lt (rateAt x) (length rates) t
+module _ (x : Float) (hz : ℕ) where
+  pub going-most : (left : ℕ) → Going x hz left → hz ≤ highest
+  going-most left g = le-trans (le-mul-of-pos-right hz (pow-pos left)) (le-of-eq (g .0))
 
-  pub rate-most : khzOf x ≤ 384
-  unfolding khzOf
-  rate-most = most-khz (rateAt x) within
-
-  pub rate-whole : HasValue x false (khzOf x * 1000) 1
-  unfolding rateAt khzOf ofInt
-  rate-whole =
-      value-of-eq (ofInt binary64 (pos (khzOf x * 1000))) x (khzOf x * 1000) 1 (mul-pos (some-khz (rateAt x) within) (zero-lt-suc 999)) (zero-lt-suc 0)
-      (round-whole binary64 false (khzOf x * 1000) (few (khzOf x) rate-most)) (first-holds (isKhz x) rates 0 within)
+  pub going-on : (left : ℕ) → 0 < left → isHz hz x ≡ false → Going x hz left → Going x (hz * 2) (left - 1)
+  going-on zero h e g = absurd (not-suc-le-zero h)
+  going-on (suc n) h e g = subst (Going x (hz * 2)) (less n) (twice hz n ∙ g .0, g .1 ∙ later x n hz e)
     where
-      few : (k : ℕ) → k ≤ 384 → k * 1000 ≤ 9007199254740992
-      few k h = omega arith
+      less : (n : ℕ) → n ≡ suc n - 1
+      less n = omega arith
 
-  -- what is written for it is accepted where it is read
-  pub khz-again : isRateKhz (khzOf x) ≡ true
-  unfolding khzOf
-  khz-again = is-true (isRateKhz (khzOf x)) (every-at isRateKhz rates 0 all-fields (rateAt x) within)
+  pub going-none : isHz hz x ≡ false → Going x hz 0 → refused 3 [] ≡ rateTold x
+  going-none e g = told-none x (g .1 ∙ none-left x hz e)
+
+  pub going-found : (left : ℕ) → isHz hz x ≡ true → Going x hz left → gives (hz / 1000 ∷ []) ≡ rateTold x
+  going-found left e g =
+      let most = going-most left g in
+      ap (λ (k : ℕ). gives (k ∷ [])) (sym (value-khz hz most x (hz-value hz most x some e))) ∙ told-khz x (g .1 ∙ once x left hz e)
+    where
+      some : 0 < hz
+      some = first-pos hz (2 ^ left) (subst (λ (z : ℕ). 0 < z) (sym (g .0)) (lit< tt))

@@ -1,35 +1,40 @@
--- The rates that are accepted, and what a receive packet writes for each: 01's row 3. Definitions only.
-use Prim.Native.Nat.{ℕ, _*_}
-use mathlib.Core.Bool.{Bool}
-use mathlib.Core.List.{List, [], _∷_}
-use lib.ListN.{length, getD}
-use lib.Dec.{ltb}
+-- The rates that are accepted, and what a receive packet writes for each: 01's row 3, by the formula of 2026-03. Definitions only.
+use Prim.Native.Nat.{ℕ, zero, suc, _*_, _/_, _^_, _≤_}
+use mathlib.Core.Bool.{Bool, false, _||_}
+use mathlib.Core.List.{[], _∷_}
 use lib.IntN.{pos}
 use lib.Ieee.{Float, binary64, ofInt, eq}
+use lib.Ieee.Exact.{HasValue}
 use Rattle.base.specs.Pick.{pick}
 use Rattle.base.specs.Told.{Told, gives, refused}
-use Rattle.base.specs.Search.{first}
+use Rattle.double.specs.Whole.{floorOf}
 use Rattle.tuning.specs.declared.rate.RateAnswer.{RateAnswer}
 use Rattle.tuning.specs.declared.rate.RateAnswer.the-variants.{Khz, NotEncodable}
 
--- in kHz
-abbrev pub rates : List ℕ
-rates = 48 ∷ 96 ∷ 192 ∷ 384 ∷ []
+-- in Hz
+abbrev pub lowestRate : ℕ
+lowestRate = 48000
 
--- whether a rate in Hz is so many kHz
-abbrev pub isKhz : Float → ℕ → Bool
-isKhz x khz = eq (ofInt binary64 (pos (khz * 1000))) x
+-- how often it may be doubled
+abbrev pub mostDoublings : ℕ
+mostDoublings = 3
 
--- which of them a rate is
-unfoldable pub rateAt : Float → ℕ
-rateAt x = first (isKhz x) rates
+-- whether a rate is so many Hz
+abbrev pub isHz : ℕ → Float → Bool
+isHz hz x = eq (ofInt binary64 (pos hz)) x
 
--- 3 unless: 48000, 96000, 192000 or 384000 Hz
+-- whether it is so many Hz doubled none to n times
+unfoldable pub isDoubled : ℕ → ℕ → Float → Bool
+isDoubled zero hz x = isHz hz x
+isDoubled (suc n) hz x = isHz hz x || isDoubled n (hz * 2) x
+
+-- 3 unless
 unfoldable pub isRate : Float → Bool
-isRate x = ltb (rateAt x) (length rates)
+isRate x = isDoubled mostDoublings lowestRate x
 
+-- the kHz of an accepted rate
 unfoldable pub khzOf : Float → ℕ
-khzOf x = getD rates (rateAt x) 0
+khzOf x = floorOf x / 1000
 
 -- whether so many kHz, as a receive packet writes them, are an accepted rate
 unfoldable pub isRateKhz : ℕ → Bool
@@ -41,3 +46,10 @@ rateTold x = pick (isRate x) (gives (khzOf x ∷ [])) (refused 3 [])
 abbrev pub rateAnswer : RateAnswer → Told
 rateAnswer (Khz khz) = gives (khz ∷ [])
 rateAnswer NotEncodable = refused 3 []
+
+-- ---- in the words of the request, and with no double worked out: what passes is this, and nothing else does
+
+-- the lowest rate, doubled n times, and n is one of none to the most
+pub record Doubled (x : Float) (n : ℕ) : Type 0 where
+  pub few : n ≤ mostDoublings
+  pub value : HasValue x false (lowestRate * 2 ^ n) 1

@@ -1,26 +1,32 @@
-// The rates that a receive packet can ask for: of a rate in Hz, and of the packet's own field.
+// The rates that a receive packet can ask for, 48 kHz doubled a few times: of a rate in Hz, and of the packet's own field.
 ghost use mathlib.Core.Path.{_≡_};
 ghost use Rattle.tuning.specs.Rate.{rateAnswer, rateTold, isRateKhz};
 
-const ENCODABLE_RATES_KHZ: [u16; 4] = [48, 96, 192, 384];
+// In Hz.
+const LOWEST_RATE: u32 = 48_000;
+
+// How often it may be doubled.
+const MOST_DOUBLINGS: u32 = 3;
 
 pub enum RateAnswer {
     Khz(u16),
     NotEncodable,
 }
 
+// What a receive packet says for a rate in Hz.
 pub fn rate_khz(rate: f64) -> RateAnswer
     ensures { λ r. ⌜ rateAnswer r ≡ rateTold rate ⌝ }
 {
-    let mut i = 0;
-    while i < 4 {
-        let khz = ENCODABLE_RATES_KHZ[i];
-        if (khz as f64) * 1000.0 == rate {
-            return RateAnswer::Khz(khz);
+    let mut hz = LOWEST_RATE;
+    let mut left = MOST_DOUBLINGS;
+    while (hz as f64) != rate {
+        if left == 0 {
+            return RateAnswer::NotEncodable;
         }
-        i += 1;
+        hz *= 2;
+        left -= 1;
     }
-    RateAnswer::NotEncodable
+    RateAnswer::Khz((hz / 1000) as u16)
 }
 
 // Whether a receive packet may ask for so many kHz: the rate in Hz is put to the same test.

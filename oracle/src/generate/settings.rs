@@ -1,6 +1,7 @@
 //! Settings to open a session with: accepted ones for each kind of list, and ones that are refused.
 use crate::calls::call::Settings;
 use crate::random::Random;
+use crate::rates;
 use std::net::Ipv4Addr;
 
 pub const MS: u64 = 1_000_000;
@@ -84,7 +85,7 @@ pub fn accepted(r: &mut Random, theme: Theme) -> Settings {
     };
     Settings {
         at: r.one_of(&[0, 0, 1, 5 * S, 1 << 40, 1 << 62]),
-        rate: r.one_of(&[48000.0, 96000.0, 192000.0, 384000.0]),
+        rate: r.one_of(&rates::hz()),
         centre: centre(r),
         port: r.one_of(&[1024, 1024, 1, 65524, 50000]),
         radio: Ipv4Addr::from(r.one_of(&[0x0a00_0002, 0, 0x7f00_0001, 0xffff_ffff, 0xc0a8_0109])),
@@ -106,8 +107,17 @@ fn beside(x: f64, by: i64) -> f64 {
 }
 
 fn any_rate(r: &mut Random) -> f64 {
-    let rate = r.one_of(&[48000.0, 96000.0, 192000.0, 384000.0]);
-    let others = [47999.0, f64::NAN, f64::INFINITY, -rate, 0.0];
+    let rate = r.one_of(&rates::hz());
+    let others = [
+        47999.0,
+        f64::NAN,
+        f64::INFINITY,
+        -rate,
+        0.0,
+        rate / 2.0,
+        rate * 2.0,
+        rate * 3.0,
+    ];
     match r.percent(30) {
         true => beside(rate, r.one_of(&[1, -1])),
         false => r.one_of(&others),

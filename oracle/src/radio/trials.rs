@@ -1,5 +1,7 @@
-//! Packets that the practice radio must accept, and packets that it must refuse: the Rust sends none of the latter.
+//! Packets that the practice radio must accept, and packets that it must refuse: the Rust sends none of the latter. Which rates
+//! it must accept the Rust says.
 use super::{Radio, LAYOUTS};
+use crate::rates;
 
 /// One that is accepted, with a count: a rate of 48 kHz, and 0 in every other field.
 fn right(stream: usize) -> Vec<u8> {
@@ -34,15 +36,8 @@ fn is_in_field(stream: usize, octet: usize) -> bool {
 
 /// A field's values on both sides of each limit: where they stand, what they are, and whether they are accepted.
 fn values() -> Vec<(usize, usize, Vec<u8>, bool)> {
-    let rate = |khz: u16| {
-        (
-            1,
-            18,
-            khz.to_be_bytes().to_vec(),
-            [48, 96, 192, 384].contains(&khz),
-        )
-    };
-    let mut values: Vec<_> = (0..1000).map(rate).collect();
+    let rate = |khz: u16| (1, 18, khz.to_be_bytes().to_vec(), rates::is_accepted(khz));
+    let mut values: Vec<_> = (0..=u16::MAX).map(rate).collect();
     for (at, most) in [(4, 1), (1443, 31)] {
         values.extend((0..=255).map(|x| (3, at, vec![x], x <= most)));
     }

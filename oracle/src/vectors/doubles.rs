@@ -2,6 +2,7 @@
 use super::Page;
 use crate::cases;
 use crate::random::Random;
+use crate::rates;
 
 /// The patterns of x and of so many doubles on either side.
 fn beside(x: f64, doubles: i64) -> impl Iterator<Item = u64> {
@@ -37,14 +38,19 @@ pub fn phase_words(page: &mut Page, draw: &mut Random) {
     given(page, "phase_word", (0..8).map(|_| draw.any()));
 }
 
-const RATES: [f64; 4] = [48e3, 96e3, 192e3, 384e3];
-
 pub fn rates(page: &mut Page, draw: &mut Random) {
-    page.title("rate_khz: the four, the doubles beside them, and other rates");
-    for rate in RATES {
+    page.title("rate_khz: the accepted rates, the doubles beside them, and other rates");
+    let rates = rates::hz();
+    let [lowest, .., highest] = rates[..] else {
+        panic!("two rates are accepted at least");
+    };
+    for &rate in &rates {
         given(page, "rate_khz", beside(rate, 2));
     }
-    for rate in [0.0, 48.0, 384.0, 768e3, 1536e3] {
+    for rate in [lowest / 2.0, 2.0 * highest] {
+        given(page, "rate_khz", beside(rate, 1));
+    }
+    for rate in [0.0, 48.0, 384.0, 4.0 * highest, -highest, -lowest / 2.0] {
         given(page, "rate_khz", beside(rate, 0));
     }
     for _ in 0..6 {
@@ -101,7 +107,7 @@ fn step(from: u64, rate: f64) -> u64 {
 
 pub fn jump_limits(page: &mut Page, draw: &mut Random) {
     page.title("jump_limit: on either side of steps, and the longest time");
-    for rate in RATES {
+    for rate in rates::hz() {
         for digits in [24, 27, 30, 34, 38, 42, 46, 50, 57, 64, 64] {
             let ns = (draw.any() >> (64 - digits)).min(u64::MAX - 20_000_000);
             let step = step(ns, rate);

@@ -4,12 +4,13 @@ use super::Page;
 use crate::cases::{answer, given, placed, spelt, RADIO, RUN};
 use crate::hpsdr::proto2::wire::*;
 use crate::random::Random;
+use crate::rates;
 
 /// A packet of each stream, and what a radio keeps of it: the values that it was made from.
 fn drawn(draw: &mut Random) -> [(Vec<u8>, Vec<u8>); 4] {
     let seq = [(); 4].map(|_| count(draw));
     let [adcs, enable] = [draw.below(256), draw.below(256)];
-    let khz: u16 = draw.one_of(&[48, 96, 192, 384]);
+    let khz = draw.one_of(rates::khz());
     let [phase, alex0, alex1] = [(); 3].map(|_| draw.any() as u32);
     let (run, db) = (draw.percent(50), draw.below(32) as u8);
     let board = given(adcs, enable);

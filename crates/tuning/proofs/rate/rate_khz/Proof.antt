@@ -1,57 +1,65 @@
--- `tuning::rate::rate_khz` meets its contract: the first entry of the table that the rate is. Assumes nothing.
-use mathlib.Core.Path.{sym, _∙_}
-use Prim.Native.Nat.{_-_, _≤_, _<_}
+-- `tuning::rate::rate_khz` meets its contract: the lowest rate is doubled until it is the rate, or may be doubled no more. Assumes
+-- nothing.
+use mathlib.Core.Path.{refl, subst}
+use Prim.Native.Nat.{_-_, _*_}
 use native.Mathlib.Omega.{arith}
+use lib.Ieee.{ne}
 use borrow.Author.Needs.{needs}
-use lib.Ieee.{ofBits}
-use Rattle.tuning.specs.Rate.{rates, isKhz}
-use Rattle.base.proofs.Searches.{Past, at-start, at-end, found, onward}
-use Rattle.tuning.proofs.Rates.{tested, told-khz, told-none}
+use borrow.Author.Tests.{not-true, not-false}
+use Rattle.tuning.specs.Rate.{isHz, isRate}
+use Rattle.tuning.proofs.Rates.{Going, going-most, going-on, going-none, going-found, small-khz}
 use Rattle.tuning.proofs.rate.rate_khz.Statement.{statement}
 use Rattle.tuning.proofs.rate.rate_khz.Tie as tie
 
 abbrev Inv-loop : tie.InvT-loop
-Inv-loop rate i₀ i = (i ≤ 4) × Past (isKhz rate) rates i
+Inv-loop rate hz₀ left₀ hz left = Going rate hz left
 
 abbrev μ-loop : tie.MeasureT-loop
-μ-loop rate i₀ i = 4 - i
+μ-loop rate hz₀ left₀ hz left = left
 
 loop-holds : tie.Need-loop-holds Inv-loop μ-loop
-loop-holds c = (omega arith, at-start _ _)
-
-mul-khz : tie.Need-mul-khz Inv-loop μ-loop
-mul-khz c = omega arith
-
-array-read-khz : tie.Need-array-read-khz Inv-loop μ-loop
-array-read-khz c = omega arith
+unfolding isRate
+loop-holds c = (refl, refl)
 
 int-to-float-if1 : tie.Need-int-to-float-if1 Inv-loop μ-loop
 int-to-float-if1 c = search needs
 
+-- what the loop goes on with
+next : (c : tie.Else2 Inv-loop μ-loop) → Going (c .before .before .before .before .args .rate) (c .before .before .before .loop .hz * 2) (c .before .before .before .loop .left - 1)
+unfolding ne
+next c =
+    let x = c .before .before .before .before .args .rate in
+    let hz = c .before .before .before .loop .hz in
+    going-on x hz (c .before .before .before .loop .left) (omega arith) (not-true (isHz hz x) (c .before .if1 .taken)) (c .before .before .before .loop .inv)
+
 returns : tie.Need-returns Inv-loop μ-loop
-unfolding ofBits
+unfolding ne
 returns c =
     let x = c .before .before .before .before .args .rate in
-    let i = c .before .before .before .loop .i in
-    let h : i < 4 = omega arith in
-    told-khz x i h (found _ _ 0 i h (sym (tested x i h) ∙ c .if1 .taken) (c .before .before .before .loop .inv .1))
+    let hz = c .before .before .before .loop .hz in
+    going-none x hz (not-true (isHz hz x) (c .before .if1 .taken)) (subst (Going x hz) (c .if2 .taken) (c .before .before .before .loop .inv))
 
-add-i : tie.Need-add-i Inv-loop μ-loop
-add-i c = omega arith
+mul-hz : tie.Need-mul-hz Inv-loop μ-loop
+mul-hz c = let most = going-most _ _ _ (next c) in omega arith
+
+sub-left : tie.Need-sub-left Inv-loop μ-loop
+sub-left c = omega arith
 
 loop-less : tie.Need-loop-less Inv-loop μ-loop
 loop-less c = omega arith
 
 loop-again : tie.Need-loop-again Inv-loop μ-loop
-unfolding ofBits
-loop-again c =
-    let x = c .before .before .before .before .args .rate in
-    let i = c .before .before .before .loop .i in
-    let h : i < 4 = omega arith in
-    (omega arith, onward _ _ 0 i h (sym (tested x i h) ∙ c .if1 .left) (c .before .before .before .loop .inv .1))
+loop-again c = next c
+
+cast-t7 : tie.Need-cast-t7 Inv-loop μ-loop
+cast-t7 c = let small = small-khz _ (going-most _ _ _ (c .before .before .loop .inv)) in omega arith
 
 returns-2 : tie.Need-returns-2 Inv-loop μ-loop
-returns-2 c = told-none (c .before .before .args .rate) (c .before .loop .i) (omega arith) (at-end _ _ (c .before .loop .i) (omega arith) (c .before .loop .inv .1))
+unfolding ne
+returns-2 c =
+    let x = c .before .before .before .args .rate in
+    let hz = c .before .before .loop .hz in
+    going-found x hz (c .before .before .loop .left) (not-false (isHz hz x) (c .if1 .left)) (c .before .before .loop .inv)
 
 pub rate-khz-spec : {M : Type 1} → statement M
 rate-khz-spec =
@@ -60,11 +68,11 @@ rate-khz-spec =
     Inv-loop
     μ-loop
     loop-holds
-    mul-khz
-    array-read-khz
     int-to-float-if1
     returns
-    add-i
+    mul-hz
+    sub-left
     loop-less
     loop-again
+    cast-t7
     returns-2)
