@@ -1,15 +1,13 @@
 -- A table searched in order: what a loop over it keeps, how far the place goes, and what stands there. Assumes nothing.
 use mathlib.Core.Path.{_≡_, refl, sym, ap, _∙_}
-use Prim.Native.Nat.{ℕ, zero, suc, _+_, _≤_, _<_, zero-le}
-use native.Mathlib.Nat.{add-zero, zero-add, le-of-eq, le-trans, lt-of-le-of-lt, le-of-suc-le-suc, not-suc-le-zero, lt-irrefl}
+use Prim.Native.Nat.{ℕ, suc, _+_, _≤_, _<_, zero-le}
+use native.Mathlib.Nat.{add-zero, zero-add, le-of-eq, le-trans, lt-of-le-of-lt, le-of-suc-le-suc, lt-irrefl}
 use native.Mathlib.Omega.{arith}
 use native.Mathlib.Numerals.{add-one}
 use mathlib.Core.Bool.{Bool, true, false, _&&_}
 use mathlib.Core.List.{List, [], _∷_}
-use lib.Dec.{T}
 use lib.ListN.{length, getD, drop, drop-of-length-le}
 use lib.Seq.{drop-cons}
-use lib.Ieee.Fits.{and-l, and-r}
 use Rattle.base.specs.Pick.{pick}
 use Rattle.base.proofs.Picks.{pick-t, pick-f}
 use Rattle.base.specs.Search.{first}
@@ -79,8 +77,3 @@ module _ {A : Type 0} (p : A → Bool) where
 abbrev pub every : {A : Type 0} → (A → Bool) → List A → Bool
 every p [] = true
 every p (x ∷ xs) = p x && every p xs
-
-pub every-at : {A : Type 0} (p : A → Bool) (ls : List A) (d : A) → T (every p ls) → (i : ℕ) → i < length ls → T (p (getD ls i d))
-every-at p [] d t i h = absurd (not-suc-le-zero h)
-every-at p (x ∷ xs) d t zero h = and-l (p x) (every p xs) t
-every-at p (x ∷ xs) d t (suc i) h = every-at p xs d (and-r (p x) (every p xs) t) i (le-of-suc-le-suc h)

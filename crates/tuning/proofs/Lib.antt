@@ -6,5 +6,6 @@ pub mod Phases
 pub mod Centres
 pub mod Doublings
 pub mod Rates
+pub mod RateLoop
 pub mod Edges
 pub mod Widths

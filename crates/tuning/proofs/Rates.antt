@@ -1,8 +1,8 @@
--- The rates: that the lowest doubled none to the most times passes, and nothing else; that an accepted rate is that whole number of
--- Hz; what is answered, and what the code's loop keeps. Assumes nothing.
+-- The rates: that the lowest doubled none to the most times passes, and nothing else; the same of a receive packet's field; that an
+-- accepted rate is that whole number of Hz; what is answered. Assumes nothing.
 use mathlib.Core.Path.{_≡_, refl, sym, ap, _∙_, subst}
-use Prim.Native.Nat.{ℕ, zero, suc, _-_, _*_, _/_, _^_, _≤_, _<_}
-use native.Mathlib.Nat.{le-trans, le-of-eq, le-mul-of-pos-right, mul-pos, mul-le-mul-left, pow-le-pow-right, zero-lt-suc, not-suc-le-zero}
+use Prim.Native.Nat.{ℕ, _*_, _/_, _^_, _≤_, _<_}
+use native.Mathlib.Nat.{le-trans, le-of-lt, mul-pos, mul-le-mul-left, pow-le-pow-right, zero-lt-suc}
 use native.Mathlib.Omega.{arith}
 use mathlib.Core.Bool.{true, false}
 use mathlib.Core.List.{List, [], _∷_}
@@ -14,12 +14,11 @@ use lib.Ieee.{Float, fin, binary64, ofInt, mul}
 use lib.Ieee.Bits.{is-true}
 use lib.Ieee.Exact.{HasValue}
 use lib.Ieee.Back.{round-whole}
-use lib.Ieee.Positive.{first-pos}
 use Rattle.base.specs.Told.{Told, gives, refused}
 use Rattle.base.proofs.Picks.{pick-t, pick-f, pick-either}
 use Rattle.double.proofs.Values.{mul-whole, eq-of-value, value-of-eq, floor-of-whole}
-use Rattle.tuning.specs.Rate.{lowestRate, mostDoublings, isHz, isDoubled, isRate, khzOf, isRateKhz, rateTold, Doubled}
-use Rattle.tuning.proofs.Doublings.{twice, once, none-left, later, found, often}
+use Rattle.tuning.specs.Rate.{lowestRate, mostDoublings, isHz, isRate, khzOf, isRateKhz, rateTold, Doubled}
+use Rattle.tuning.proofs.Doublings.{found, often}
 
 -- ---- the lowest rate doubled n times: above 0, and no more than the highest. What is asked of the highest is computed
 
@@ -38,13 +37,13 @@ module _ (hz : ℕ) (most : hz ≤ highest) where
   unfolding ofInt
   of-hz = round-whole binary64 false hz (le-trans most (lit≤ tt))
 
-  hz-value : (x : Float) → 0 < hz → isHz hz x ≡ true → HasValue x false hz 1
+  pub hz-value : (x : Float) → 0 < hz → isHz hz x ≡ true → HasValue x false hz 1
   hz-value x some e = value-of-eq (ofInt binary64 (pos hz)) x hz 1 some (zero-lt-suc 0) of-hz e
 
   value-hz : (x : Float) → HasValue x false hz 1 → isHz hz x ≡ true
   value-hz x v = eq-of-value (ofInt binary64 (pos hz)) x hz 1 (zero-lt-suc 0) of-hz v
 
-  value-khz : (x : Float) → HasValue x false hz 1 → khzOf x ≡ hz / 1000
+  pub value-khz : (x : Float) → HasValue x false hz 1 → khzOf x ≡ hz / 1000
   unfolding khzOf
   value-khz x v = ap (λ (z : ℕ). z / 1000) (floor-of-whole x hz (le-trans most (lit≤ tt)) v)
 
@@ -85,20 +84,53 @@ unfolding rateTold
 else-told x never =
     pick-either (isRate x) _ _ (λ (t : Told). t ≡ refused 3 []) (λ b. let d = doublings x b in absurd (never (d .0) (d .1))) (λ b. refl)
 
+-- ---- a receive packet's field: so many kHz
+
+thousand : (p : ℕ) → 48 * p * 1000 ≡ 48000 * p
+thousand p = omega arith
+
+-- as the code tests them
+pub field-tested : (khz : ℕ) → khz < 2 ^ 16 → isRate (mul binary64 (ofInt binary64 (pos khz)) (fin false 125 (pos 3))) ≡ isRateKhz khz
+unfolding isRateKhz ofInt
+field-tested khz h = ap isRate (mul-whole binary64 khz 1000 (le-trans (le-of-lt h) (lit≤ tt)) (lit≤ tt))
+
+-- what is accepted is 48 doubled none to the most times, and nothing else
+doubled-field : (n : ℕ) → n ≤ mostDoublings → isRateKhz (48 * 2 ^ n) ≡ true
+unfolding isRateKhz
+doubled-field n few =
+    ap (λ (z : ℕ). isRate (ofInt binary64 (pos z))) (thousand (2 ^ n))
+    ∙ doubled-passes (ofInt binary64 (pos (lowestRate * 2 ^ n))) n (record { few = few; value = of-hz (lowestRate * 2 ^ n) (most-hz n few) })
+
+field-doubled : (khz : ℕ) → khz < 2 ^ 16 → isRateKhz khz ≡ true → (n : ℕ) × (n ≤ mostDoublings) × (khz ≡ 48 * 2 ^ n)
+unfolding isRateKhz khzOf ofInt
+field-doubled khz h t =
+    let d = doublings (ofInt binary64 (pos (khz * 1000))) t in
+    (d .0, d .1 .few, sym (own khz h) ∙ doubled-khz (ofInt binary64 (pos (khz * 1000))) (d .0) (d .1))
+  where
+    few : (k : ℕ) → k < 65536 → k * 1000 ≤ 65536000
+    few k l = omega arith
+
+    over : (k : ℕ) → k * 1000 / 1000 ≡ k
+    over k = omega arith
+
+    own : (k : ℕ) → k < 2 ^ 16 → khzOf (ofInt binary64 (pos (k * 1000))) ≡ k
+    own k l =
+        ap (λ (z : ℕ). z / 1000)
+        (floor-of-whole (ofInt binary64 (pos (k * 1000))) (k * 1000) (le-trans (few k l) (lit≤ tt)) (round-whole binary64 false (k * 1000) (le-trans (few k l) (lit≤ tt))))
+        ∙ over k
+
+pub field-exactly : (khz : ℕ) → khz < 2 ^ 16 → (isRateKhz khz ≡ true) ↔ ((n : ℕ) × (n ≤ mostDoublings) × (khz ≡ 48 * 2 ^ n))
+field-exactly khz h = (field-doubled khz h, λ d. ap isRateKhz (d .2) ∙ doubled-field (d .0) (d .1))
+
 -- ---- an accepted rate
 module _ (x : Float) (t : T (isRate x)) where
   abbrev doubled : (n : ℕ) × Doubled x n
   doubled = doublings x (is-true (isRate x) t)
 
-  thousands : khzOf x * 1000 ≡ lowestRate * 2 ^ doubled .0
-  thousands = ap (λ (z : ℕ). z * 1000) (doubled-khz x (doubled .0) (doubled .1)) ∙ over (2 ^ doubled .0)
-    where
-      over : (p : ℕ) → 48 * p * 1000 ≡ 48000 * p
-      over p = omega arith
-
   -- it is that whole number of Hz
   pub rate-whole : HasValue x false (khzOf x * 1000) 1
-  rate-whole = subst (λ (z : ℕ). HasValue x false z 1) (sym thousands) (doubled .1 .value)
+  rate-whole =
+      subst (λ (z : ℕ). HasValue x false z 1) (sym (ap (λ (z : ℕ). z * 1000) (doubled-khz x (doubled .0) (doubled .1)) ∙ thousand (2 ^ doubled .0))) (doubled .1 .value)
 
   pub khz-fits : khzOf x < 2 ^ 16
   khz-fits =
@@ -107,27 +139,15 @@ module _ (x : Float) (t : T (isRate x)) where
 
   -- what is written for it is accepted where it is read
   pub khz-again : isRateKhz (khzOf x) ≡ true
-  unfolding isRateKhz
-  khz-again =
-      ap (λ (z : ℕ). isRate (ofInt binary64 (pos z))) thousands
-      ∙ doubled-passes (ofInt binary64 (pos (lowestRate * 2 ^ doubled .0))) (doubled .0)
-      (record { few = doubled .1 .few; value = of-hz (lowestRate * 2 ^ doubled .0) (most-hz (doubled .0) (doubled .1 .few)) })
-
--- ---- a receive packet's field: so many kHz, as the code tests them
-pub field-tested : (khz : ℕ) → khz < 65536 → isRate (mul binary64 (ofInt binary64 (pos khz)) (fin false 125 (pos 3))) ≡ isRateKhz khz
-unfolding isRateKhz ofInt
-field-tested khz h = ap isRate (mul-whole binary64 khz 1000 (le-trans (small khz h) (lit≤ tt)) (lit≤ tt))
-  where
-    small : (k : ℕ) → k < 65536 → k ≤ 65536
-    small k h = omega arith
+  khz-again = ap isRateKhz (doubled-khz x (doubled .0) (doubled .1)) ∙ doubled-field (doubled .0) (doubled .1 .few)
 
 -- ---- the answers
 
-told-khz : (x : Float) → isRate x ≡ true → gives (khzOf x ∷ []) ≡ rateTold x
+pub told-khz : (x : Float) → isRate x ≡ true → gives (khzOf x ∷ []) ≡ rateTold x
 unfolding rateTold
 told-khz x t = sym (pick-t _ _ _ t)
 
-told-none : (x : Float) → isRate x ≡ false → refused 3 [] ≡ rateTold x
+pub told-none : (x : Float) → isRate x ≡ false → refused 3 [] ≡ rateTold x
 unfolding rateTold
 told-none x t = sym (pick-f _ _ _ t)
 
@@ -142,29 +162,3 @@ given-khz x khz = pick-either (isRate x) _ _ (λ (t : Told). gives (khz ∷ []) 
 pub refused-rate : (x : Float) → refused 3 [] ≡ rateTold x → isRate x ≡ false
 unfolding rateTold
 refused-rate x = pick-either (isRate x) _ _ (λ (t : Told). refused 3 [] ≡ t → isRate x ≡ false) (λ b h. no-told _ _ (sym h)) (λ b h. b)
-
--- ---- what the code's loop keeps: so many Hz, doubled as often as is left, are the highest; and a rate that passes is among these
-abbrev pub Going : Float → ℕ → ℕ → Type 0
-Going x hz left = (hz * 2 ^ left ≡ highest) × (isRate x ≡ isDoubled left hz x)
-
-module _ (x : Float) (hz : ℕ) where
-  pub going-most : (left : ℕ) → Going x hz left → hz ≤ highest
-  going-most left g = le-trans (le-mul-of-pos-right hz (pow-pos left)) (le-of-eq (g .0))
-
-  pub going-on : (left : ℕ) → 0 < left → isHz hz x ≡ false → Going x hz left → Going x (hz * 2) (left - 1)
-  going-on zero h e g = absurd (not-suc-le-zero h)
-  going-on (suc n) h e g = subst (Going x (hz * 2)) (less n) (twice hz n ∙ g .0, g .1 ∙ later x n hz e)
-    where
-      less : (n : ℕ) → n ≡ suc n - 1
-      less n = omega arith
-
-  pub going-none : isHz hz x ≡ false → Going x hz 0 → refused 3 [] ≡ rateTold x
-  going-none e g = told-none x (g .1 ∙ none-left x hz e)
-
-  pub going-found : (left : ℕ) → isHz hz x ≡ true → Going x hz left → gives (hz / 1000 ∷ []) ≡ rateTold x
-  going-found left e g =
-      let most = going-most left g in
-      ap (λ (k : ℕ). gives (k ∷ [])) (sym (value-khz hz most x (hz-value hz most x some e))) ∙ told-khz x (g .1 ∙ once x left hz e)
-    where
-      some : 0 < hz
-      some = first-pos hz (2 ^ left) (subst (λ (z : ℕ). 0 < z) (sym (g .0)) (lit< tt))

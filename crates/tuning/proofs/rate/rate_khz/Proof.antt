@@ -7,7 +7,8 @@ use lib.Ieee.{ne}
 use borrow.Author.Needs.{needs}
 use borrow.Author.Tests.{not-true, not-false}
 use Rattle.tuning.specs.Rate.{isHz, isRate}
-use Rattle.tuning.proofs.Rates.{Going, going-most, going-on, going-none, going-found, small-khz}
+use Rattle.tuning.proofs.Rates.{small-khz}
+use Rattle.tuning.proofs.RateLoop.{Going, going-most, going-on, going-none, going-found}
 use Rattle.tuning.proofs.rate.rate_khz.Statement.{statement}
 use Rattle.tuning.proofs.rate.rate_khz.Tie as tie
 
