@@ -23,7 +23,7 @@ mostDoublings = 3
 abbrev pub isHz : ℕ → Float → Bool
 isHz hz x = eq (ofInt binary64 (pos hz)) x
 
--- whether it is so many Hz doubled none to n times
+-- whether it is so many Hz, doubled none to n times
 unfoldable pub isDoubled : ℕ → ℕ → Float → Bool
 isDoubled zero hz x = isHz hz x
 isDoubled (suc n) hz x = isHz hz x || isDoubled n (hz * 2) x
@@ -47,9 +47,9 @@ abbrev pub rateAnswer : RateAnswer → Told
 rateAnswer (Khz khz) = gives (khz ∷ [])
 rateAnswer NotEncodable = refused 3 []
 
--- ---- in the words of the request, and with no double worked out: what passes is this, and nothing else does
+-- ---- what passes, in the request's words and with no test of a double (`rate-exactly`)
 
--- the lowest rate, doubled n times, and n is one of none to the most
+-- the lowest rate, doubled n times, and n is none to the most
 pub record Doubled (x : Float) (n : ℕ) : Type 0 where
   pub few : n ≤ mostDoublings
   pub value : HasValue x false (lowestRate * 2 ^ n) 1

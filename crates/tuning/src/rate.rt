@@ -13,7 +13,7 @@ pub enum RateAnswer {
     NotEncodable,
 }
 
-// What a receive packet says for a rate in Hz.
+// The kHz that a receive packet says for a rate in Hz. `NotEncodable`, 01's 3, where the rate is not accepted.
 pub fn rate_khz(rate: f64) -> RateAnswer
     ensures { λ r. ⌜ rateAnswer r ≡ rateTold rate ⌝ }
 {
