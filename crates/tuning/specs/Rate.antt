@@ -28,7 +28,7 @@ unfoldable pub isDoubled : ℕ → ℕ → Float → Bool
 isDoubled zero hz x = isHz hz x
 isDoubled (suc n) hz x = isHz hz x || isDoubled n (hz * 2) x
 
--- 3 unless
+-- 3 unless: it is the lowest rate, doubled none to the most times
 unfoldable pub isRate : Float → Bool
 isRate x = isDoubled mostDoublings lowestRate x
 
