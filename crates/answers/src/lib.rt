@@ -1,4 +1,6 @@
 // What a call answered, as two numbers: which answer, and its value. specs/Code has the table.
+#![tactic(auto)]
+
 ghost use Rattle.std.specs.Prelude.{◌≡◌, length};
 ghost use Rattle.model.specs.Answer as Answer;
 ghost use Rattle.answers.specs.Code.{coded, numbers_of};

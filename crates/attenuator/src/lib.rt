@@ -1,5 +1,7 @@
 // Automatic attenuation of ADC0: 6 dB more, 30 at most, where overload goes on; 6 dB less after a quiet time. It reads no clock:
 // readings come in as arguments. 01, The session, Attenuator.
+#![tactic(auto)]
+
 ghost use Rattle.std.specs.Prelude.{◌≡◌, min};
 ghost use Rattle.attenuator.specs.Controller.{usual, up, down, opened, run_start_of, heard, trips, observed, releases, ticked};
 

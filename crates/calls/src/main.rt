@@ -1,5 +1,7 @@
 // Reads lists of calls as text (docs/CALLS.md) from standard input, or from the file that its argument names, and writes an answer a
 // line and each session's account.
+#![tactic(auto)]
+
 mod arguments;
 mod practice;
 mod run;

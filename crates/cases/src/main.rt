@@ -1,4 +1,6 @@
 // Runs cases of text, a line each, and tells of each whether it came out as expected.
+#![tactic(auto)]
+
 mod functions;
 mod one;
 mod run;

@@ -1,5 +1,7 @@
 // Discovery: the Protocol 2 request, and what a radio of either protocol replies. A reply's sender, and so its address on
 // the network, is the caller's to know.
+#![tactic(auto)]
+
 ghost use Rattle.std.specs.Prelude.{true, ◌≡◌, ◌+◌, ◌≤◌, length, take, drop};
 ghost use Rattle.wire.specs.Packet.{Sent};
 ghost use Rattle.discovery.specs.Request.{request_packet};

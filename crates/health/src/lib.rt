@@ -1,4 +1,6 @@
 // The counts of a session: datagrams lost, gaps, and malformed datagrams, each modulo 2^64. 01, The session.
+#![tactic(auto)]
+
 ghost use Rattle.std.specs.Prelude.{◌≡◌};
 ghost use Rattle.health.specs.Counters.{none_counted, count_dropped, count_gap, count_malformed, loss_total};
 

@@ -1,4 +1,6 @@
 // The session that a program holds, with its account beside it: opened by a line of text, and called by what a line was read as.
+#![tactic(auto)]
+
 ghost use Rattle.std.specs.Prelude.{◌≡◌, ◌&&◌};
 ghost use Rattle.encoding.specs.Lists.{lent_by};
 ghost use Rattle.holding.specs.Held.{Opens, Goes, Holds};

@@ -1,4 +1,6 @@
 // The I/Q datagram: its header, and its 238 pairs as f32, which come as 24-bit signed numbers.
+#![tactic(auto)]
+
 ghost use Rattle.std.specs.Prelude.{◌≡◌, ◌+◌, ◌≤◌, ◌<◌, length};
 ghost use Rattle.octets.specs.Number.{be_at};
 ghost use Rattle.octets.specs.Written.{written};

@@ -1,4 +1,6 @@
 // Packets that are due: keepalives whose interval has passed, and an attenuation step's, as the Rust's mod.rs has them.
+#![tactic(auto)]
+
 ghost use Rattle.std.specs.Prelude.{length};
 ghost use Rattle.model.specs.Sending as Sending;
 ghost use Rattle.sending.specs.Progress.{Sends, HasRoom};

@@ -1,4 +1,6 @@
 // A line of a list of calls, read (docs/CALLS.md). What can't be read gives what was expected.
+#![tactic(auto)]
+
 ghost use Rattle.std.specs.Prelude.{◌≡◌};
 ghost use Rattle.lines.specs.Call.{Lent};
 ghost use Rattle.lines.specs.Open.{opening_of};

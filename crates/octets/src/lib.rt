@@ -1,5 +1,7 @@
 // Numbers, big-endian, and runs of zeros in a lent buffer. A place and its width have been tested by the
 // caller against the buffer's length; a writer leaves every other place as it was.
+#![tactic(auto)]
+
 ghost use Rattle.std.specs.Prelude.{◌≡◌, true, ◌+◌, ◌≤◌, ◌<◌, length};
 ghost use Rattle.octets.specs.Written.{written};
 ghost use Rattle.octets.specs.Number.{be, be_at};

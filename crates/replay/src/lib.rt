@@ -1,2 +1,4 @@
 // Lists of calls, run: from a session just opened or carried on from one that has run already.
+#![tactic(auto)]
+
 pub mod run;

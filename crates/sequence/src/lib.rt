@@ -1,4 +1,6 @@
 // The tracker of datagram numbers: what a number means relative to the stream so far. 01, Numbers in the stream.
+#![tactic(auto)]
+
 ghost use Rattle.std.specs.Prelude.{◌≡◌};
 ghost use Rattle.sequence.specs.Tracker.{new, zero_restarts, meaning, rebaselined, observed};
 

@@ -1,5 +1,7 @@
 // One outage of a stream that was delivering: told once after the soft deadline, and again only after a further delivery.
 // 01, The session, Pass.
+#![tactic(auto)]
+
 ghost use Rattle.std.specs.Prelude.{◌≡◌};
 ghost use Rattle.stall.specs.Episode.{unarmed, delivered, is_due, reported, taken};
 

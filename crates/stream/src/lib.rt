@@ -1,4 +1,6 @@
 // The samples of a datagram, and what a stream's elapsed time and rate give: 01, Numbers in the stream.
+#![tactic(auto)]
+
 ghost use Rattle.std.specs.Prelude.{◌≡◌};
 ghost use Rattle.stream.specs.Elapsed.{jump_limit, restart_missing, account_time, covered_time, below_half};
 

@@ -1,4 +1,6 @@
 // What a program tells of a list of calls, as lines of text in a gathered output (docs/CALLS.md).
+#![tactic(auto)]
+
 pub mod answer;
 mod digest;
 pub mod error;

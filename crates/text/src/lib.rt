@@ -1,4 +1,6 @@
 // Words and numbers in a slice of text. Every function is total: a caller goes on with the part of the slice that is left.
+#![tactic(auto)]
+
 ghost use Rattle.std.specs.Prelude.{◌≡◌, ◌≤◌, true, length};
 ghost use Rattle.text.specs.Run.{run, is, other};
 ghost use Rattle.text.specs.Number.{digit_of, digits_of, is_hex, number_of};
