@@ -1,0 +1,19 @@
+-- `tuning::alex::ladder` meets its contract: the bits at the rung's place, of which the table has one past the last rung. Assumes nothing.
+use mathlib.Core.Path.{◌≡◌}
+use Prim.Native.Nat.{◌<◌}
+use native.Mathlib.Omega.{arith}
+use borrow.Author.Rules.{rules}
+use lib.ListN.{length}
+use Rattle.base.proofs.Searches.{in_table}
+use Rattle.tuning.proofs.alex.ladder.Goals as goal
+
+pub offset_bounds-bits-rung : goal.offset_bounds-bits-rung
+offset_bounds-bits-rung c =
+    let n : length c.args.limits ≡ 6 = search rules in
+    omega (arith, in_table _ _ _ 7 c.rung.ensures (omega arith))
+
+pub bounds-bits-rung : goal.bounds-bits-rung
+bounds-bits-rung c = let n : length c.args.limits ≡ 6 = search rules in in_table _ _ _ 7 c.rung.ensures (omega arith)
+
+pub returns : goal.returns
+returns c = rw c.rung.ensures
