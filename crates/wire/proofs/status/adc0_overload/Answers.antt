@@ -6,17 +6,13 @@ use native.Mathlib.Omega.{arith}
 use lib.Dec.{eqb}
 use lib.Bits.{and_mask}
 use Rattle.wire.specs.Status.{overloaded}
-use Rattle.wire.proofs.status.adc0_overload.Statement.{statement}
-use Rattle.wire.proofs.status.adc0_overload.Tie as tie
+use Rattle.wire.proofs.status.adc0_overload.Goals as goal
 
 one-or-none : (b : ℕ) → b < 2 → not (eqb b 0) ≡ eqb b 1
 one-or-none zero h = refl
 one-or-none (suc zero) h = refl
 one-or-none (suc (suc b)) h = absurd (omega arith)
 
-returns : tie.Need-returns
+pub returns : goal.returns
 unfolding overloaded
 returns c = let n = c.args.bits in ap (λ (b : ℕ). not (eqb b 0)) (and_mask n 1) ∙ one-or-none (n % 2) (omega arith)
-
-pub adc0-overload-spec : {M : Type 1} → statement M
-adc0-overload-spec = tie.close (tie.spec returns)
