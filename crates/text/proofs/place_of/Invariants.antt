@@ -1,0 +1,11 @@
+-- `text::place_of` goes over the names one by one. Assumes nothing.
+use Prim.Native.Nat.{◌-◌}
+use lib.ListN.{length}
+use Rattle.text.proofs.Names.{Sought}
+use Rattle.text.proofs.place_of.Given as goal
+
+abbrev pub invariant-loop-at : goal.invariant-loop-at
+invariant-loop-at l = Sought l.w l.names l.at l.k
+
+abbrev pub decreases-loop-at : goal.decreases-loop-at
+decreases-loop-at l = length l.names - l.at
