@@ -21,7 +21,7 @@ pub const STEP_DB: u8 = 6;
 pub const MAX_DB: u8 = 30;
 
 // The controller's three times, in nanoseconds.
-#[derive(Drop)]
+#[derive(Clone, Copy)]
 pub struct Timing {
     pub hold: u64,
     pub trip_after: u64,
@@ -29,19 +29,19 @@ pub struct Timing {
 }
 
 // A reading, or that there was none yet.
-#[derive(Drop)]
+#[derive(Clone, Copy)]
 pub enum Moment {
     Never,
     At(u64),
 }
 
-#[derive(Drop)]
+#[derive(Clone, Copy)]
 pub enum AttenuationCause {
     Overload,
     Quiet,
 }
 
-#[derive(Drop)]
+#[derive(Clone, Copy)]
 pub enum AttenuationStep {
     NoStep,
     Step {
@@ -51,7 +51,7 @@ pub enum AttenuationStep {
     },
 }
 
-#[derive(Drop)]
+#[derive(Clone, Copy)]
 pub struct Controller {
     pub db: u8,
     pub timing: Timing,
@@ -64,7 +64,7 @@ pub struct Controller {
 }
 
 // The step that a call took, and the controller after it.
-#[derive(Drop)]
+#[derive(Clone, Copy)]
 pub struct Stepped {
     pub step: AttenuationStep,
     pub controller: Controller,
