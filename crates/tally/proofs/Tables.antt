@@ -6,7 +6,6 @@ use native.Mathlib.Decide.{ℕ_discrete}
 use Rattle.base.proofs.Picks.{pick-t, pick-f}
 use Rattle.octets.specs.Written.{written}
 use Rattle.tally.specs.Stretch.{first_of}
-use Rattle.tally.specs.Stretches.{noted}
 use Rattle.tally.specs.Table.{most_stretches, blank, numbers_of, stretch_at, kept, ending_in, holding, fitting, begins, by_event, note_in, table_by, table_in}
 use Rattle.tally.specs.declared.record.Event.{Event}
 use Rattle.tally.specs.declared.record.Event.TheVariants.{Restart}

@@ -15,7 +15,7 @@ pub const STRETCHES: usize = 4096;
 // The table's places, seven for each.
 pub const TABLE: usize = 28672;
 
-#[derive(Drop)]
+#[derive(Clone, Copy)]
 pub struct Account {
     pub stretches: usize,
     // the last of them, which is not in the table
@@ -25,7 +25,7 @@ pub struct Account {
 }
 
 // The account after an arrival; or there was no room for another stretch, and the account is as it was.
-#[derive(Drop)]
+#[derive(Clone, Copy)]
 pub struct Noted {
     pub account: Account,
     pub fits: bool,

@@ -1,6 +1,6 @@
 // What is kept of an arrival of valid I/Q, as its answer told it.
 
-#[derive(Drop)]
+#[derive(Clone, Copy)]
 pub enum Event {
     InOrder,
     Gap,
@@ -8,7 +8,7 @@ pub enum Event {
     Restart,
 }
 
-#[derive(Drop)]
+#[derive(Clone, Copy)]
 pub struct Record {
     // the arrival's reading, and the number of its datagram
     pub reading: u64,

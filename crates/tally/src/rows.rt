@@ -17,14 +17,14 @@ pub const COUNTERS: u64 = 2;
 pub const GAP: u64 = 3;
 
 // A row's numbers, from the first place on; the places that it doesn't use are 0.
-#[derive(Drop)]
+#[derive(Clone, Copy)]
 pub struct Row {
     pub line: u64,
     pub numbers: [u64; 8],
 }
 
 // What is read off a session where its account is told: the pairs that wait, its three counters, and its loss total.
-#[derive(Drop)]
+#[derive(Clone, Copy)]
 pub struct End {
     pub waiting: u64,
     pub dropped: u64,

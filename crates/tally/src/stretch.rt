@@ -7,7 +7,7 @@ use std::num::{wrapping_add_u64, wrapping_sub_u32};
 use stream::SAMPLES_PER_DATAGRAM;
 
 // It begins with the session's first arrival, or with one told Restart.
-#[derive(Drop)]
+#[derive(Clone, Copy)]
 pub struct Stretch {
     // the first arrival's reading, and that of the last accepted one
     pub at: u64,
@@ -58,7 +58,7 @@ pub fn more(s: Stretch, x: Record) -> Stretch
 }
 
 // Over several stretches.
-#[derive(Drop)]
+#[derive(Clone, Copy)]
 pub struct Sums {
     pub samples: u64,
     pub missing: u64,
