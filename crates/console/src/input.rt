@@ -1,12 +1,14 @@
 // The lines of a file. A read that fails is no end of them.
-ghost use Rattle.std.specs.Prelude.{◌≤◌, length};
+ghost use Rattle.std.specs.Prelude.{◌≤◌, ◌+◌, length};
 ghost use Rattle.console.specs.Input.{Within};
+
+use std::io::{Error, ErrorKind, Read};
 
 // A line and its newline have room for so many octets.
 pub const ROOM: usize = 131072;
 
 // The line in hand, and what was read behind it. All of it lies in a room that the caller lends.
-#[derive(Drop)]
+#[derive(Clone, Copy)]
 pub struct Input {
     // the line, without its newline
     pub start: usize,
@@ -20,8 +22,8 @@ pub struct Input {
     pub too_long: bool,
     // the file has no more
     pub over: bool,
-    // it can't be read on: what comes next is not known
-    pub failed: bool,
+    // why it can't be read on: what comes next is not known
+    pub failed: Option<Error>,
 }
 
 // That of a file of which nothing is read.
@@ -36,7 +38,7 @@ pub fn nothing() -> Input
         is_line: false,
         too_long: false,
         over: false,
-        failed: false,
+        failed: None,
     }
 }
 
@@ -114,41 +116,45 @@ fn slide(room: &mut [u8], start: usize, end: usize)
 }
 
 // What one read gave.
-#[derive(Drop)]
+#[derive(Clone, Copy)]
 struct Got {
     count: usize,
     over: bool,
-    failed: bool,
+    failed: Option<Error>,
 }
 
 // A read that a signal interrupts gave nothing, and is tried again.
-fn read_some(fd: i32, room: &mut [u8]) -> Got {
-    let n = libc::read(fd, room);
-    if n < 0 {
-        let error = os::errno();
-        return Got {
+fn read_some<R: Read>(from: &mut R, room: &mut [u8]) -> Got
+    ensures { result.count ≤ length room.new }
+{
+    match from.read(room) {
+        Ok(count) => Got {
+            count,
+            over: count == 0,
+            failed: None,
+        },
+        Err(error) => Got {
             count: 0,
             over: false,
-            failed: error != libc::EINTR,
-        };
-    }
-    let count = io::count(n, room);
-    Got {
-        count,
-        over: count == 0,
-        failed: false,
+            failed: if error.kind() == ErrorKind::Interrupted {
+                None
+            } else {
+                Some(error)
+            },
+        },
     }
 }
 
 // Behind the first `had` octets.
-fn read_behind(fd: i32, room: &mut [u8], had: usize) -> Got
+fn read_behind<R: Read>(from: &mut R, room: &mut [u8], had: usize) -> Got
     requires { had ≤ length room.old }
+    ensures { had + result.count ≤ length room.new }
 {
-    read_some(fd, &mut room[had..])
+    read_some(from, &mut room[had..])
 }
 
 // No line in hand, and so much read.
-fn holding(filled: usize, over: bool, failed: bool) -> Input
+fn holding(filled: usize, over: bool, failed: Option<Error>) -> Input
     requires { filled ≤ 131072 }
     ensures { Within result }
 {
@@ -165,28 +171,24 @@ fn holding(filled: usize, over: bool, failed: bool) -> Input
 }
 
 // Reads more behind what is there. A room that is full stays as it is: a read of no octets would look like the file's end.
-fn more(fd: i32, room: &mut [u8; ROOM], had: usize) -> Input
+fn more<R: Read>(from: &mut R, room: &mut [u8; ROOM], had: usize) -> Input
     requires { had ≤ 131072 }
     ensures { Within result }
 {
     if had == ROOM {
-        return holding(had, false, false);
+        return holding(had, false, None);
     }
-    let g = read_behind(fd, room, had);
-    let n = g.count;
-    if n > ROOM - had {
-        return holding(had, false, true);
-    }
-    holding(had + n, g.over, g.failed)
+    let g = read_behind(from, room, had);
+    holding(had + g.count, g.over, g.failed)
 }
 
 // What is left goes to the front, and more is read behind it.
-pub fn fill(fd: i32, room: &mut [u8; ROOM], at: Input) -> Input
+pub fn fill<R: Read>(from: &mut R, room: &mut [u8; ROOM], at: Input) -> Input
     requires { Within at }
     ensures { Within result }
 {
     let start = at.next;
     let end = at.filled;
     slide(room, start, end);
-    more(fd, room, end - start)
+    more(from, room, end - start)
 }

@@ -1,10 +1,10 @@
 // Texts with places for numbers, and texts by their number in a list.
 ghost use Rattle.std.specs.Prelude.{◌≤◌, length};
 
-use super::output::{ROOM, number, put};
+use super::output::{Output, number, put};
 use text::{Word, find};
 
-fn nth_number(out: &mut [u8; ROOM], at: usize, numbers: &[u64], k: usize) -> usize {
+fn nth_number(out: &mut Output, at: usize, numbers: &[u64], k: usize) -> usize {
     if k < numbers.len() {
         return number(out, at, numbers[k]);
     }
@@ -12,7 +12,7 @@ fn nth_number(out: &mut [u8; ROOM], at: usize, numbers: &[u64], k: usize) -> usi
 }
 
 // Puts words behind the first `at` octets, with the next of the numbers in place of each #; where they end then.
-pub fn filled(out: &mut [u8; ROOM], at: usize, words: &[u8], numbers: &[u64]) -> usize {
+pub fn filled(out: &mut Output, at: usize, words: &[u8], numbers: &[u64]) -> usize {
     let mut end = at;
     let mut from = 0;
     let mut k = 0;
@@ -48,7 +48,7 @@ fn nth(texts: &[u8], between: u8, k: u64) -> Word
 
 // Puts the k-th of the texts, from 0, that `between` stands between, filled; where it ends then.
 pub fn nth_filled(
-    out: &mut [u8; ROOM],
+    out: &mut Output,
     at: usize,
     texts: &[u8],
     between: u8,
