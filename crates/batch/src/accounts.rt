@@ -4,7 +4,7 @@ ghost use Rattle.std.specs.Prelude.{◌≤◌};
 use super::copy;
 use super::list::{OCTETS, WORDS};
 use super::replies::eight_at;
-use console::output::ROOM;
+use console::output::Output;
 use desk::key::put_rows;
 use encoding::words::{taken_by, words_at};
 use marking::note::note;
@@ -59,7 +59,7 @@ pub fn tell(
     octets: &[u8; OCTETS],
     answers: &[u64; WORDS],
     e: End,
-    out: &mut [u8; ROOM],
+    out: &mut Output,
     at: usize,
 ) -> usize
     requires { n ≤ 1024 }

@@ -20,7 +20,7 @@ pub const PACKETS: usize = 2097152;
 pub const PLACES: usize = 131072;
 
 // How much is gathered of each. More than there is room for: the last call had none.
-#[derive(Drop)]
+#[derive(Clone, Copy)]
 pub struct List {
     pub calls: usize,
     pub octets: usize,

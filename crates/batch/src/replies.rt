@@ -3,7 +3,7 @@ ghost use Rattle.std.specs.Prelude.{◌<◌, ◌≤◌};
 
 use super::copy;
 use super::list::{PACKETS, PLACES, WORDS};
-use console::output::ROOM;
+use console::output::Output;
 use encoding::words::{Words, taken_by, words_at};
 use receiving::queue::copy_out;
 use std::num::wrapping_add_usize;
@@ -15,7 +15,7 @@ const MOST_PACKETS: usize = 8192;
 const MOST_PLACES: usize = 1024;
 
 // How much of the packets and the places was of the calls told, and how much is written but not flushed.
-#[derive(Drop)]
+#[derive(Clone, Copy)]
 struct Told {
     packets: usize,
     places: usize,
@@ -39,7 +39,7 @@ fn tell_one(
     answer: &[u64; 8],
     packets: &[u8; PACKETS],
     places: &[f32; PLACES],
-    out: &mut [u8; ROOM],
+    out: &mut Output,
 ) -> Told {
     let need = taken_by(w);
     let mut own_packets = [0u8; MOST_PACKETS];
@@ -61,7 +61,7 @@ pub fn tell(
     packets: &[u8; PACKETS],
     places: &[f32; PLACES],
     answers: &[u64; WORDS],
-    out: &mut [u8; ROOM],
+    out: &mut Output,
     at: usize,
 ) -> usize
     requires { n ≤ 1024 }

@@ -3,7 +3,7 @@
 use desk::desk::Flags;
 use libc::{PATH_MAX, STDERR_FILENO};
 
-#[derive(Drop)]
+#[derive(Clone, Copy)]
 pub(crate) struct Arguments {
     pub(crate) flags: Flags,
     // the argument that names the file; at the end there is none
@@ -56,7 +56,7 @@ pub(crate) fn read() -> Arguments {
 }
 
 // How long a file's name is, or that it is none.
-#[derive(Drop)]
+#[derive(Clone, Copy)]
 pub(crate) struct FileName {
     pub(crate) length: usize,
     pub(crate) is_name: bool,

@@ -3,7 +3,7 @@ ghost use Rattle.std.specs.Prelude.{◌≡◌, min, slice_index};
 ghost use Rattle.calls.specs.Practised as Practised;
 
 use answers::STREAMS;
-use console::output::ROOM;
+use console::output::Output;
 use desk::desk::{CALL, Desk, OPEN, numbered, written};
 use radio::listen::read_commands;
 use radio::state::{HighPriority, Radio};
@@ -16,7 +16,7 @@ const OFFSETS: usize = STREAMS + 1;
 const MOST: usize = 5;
 
 // What the radio keeps, and how many packets it refused since `open`. Each of these is a fault of a call, and is told.
-#[derive(Drop)]
+#[derive(Clone, Copy)]
 pub(crate) struct Practice {
     radio: Radio,
     refused: u64,
@@ -124,7 +124,7 @@ fn tuned(h: HighPriority, refused: u64) -> [u64; 6] {
     ]
 }
 
-pub(crate) fn shown(p: Practice, d: Desk, out: &mut [u8; ROOM]) -> Desk {
+pub(crate) fn shown(p: Practice, d: Desk, out: &mut Output) -> Desk {
     let start = numbered(out, d);
     let r = p.radio;
     let h = r.high_priority;

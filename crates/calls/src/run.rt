@@ -4,7 +4,7 @@ ghost use Rattle.console.specs.Input.{Within};
 use super::practice::{listened, untold};
 use super::sessions::{after, became_of, told};
 use console::input::{Input, ROOM as INPUT, fill, is_cut, next, nothing};
-use console::output::{ROOM, finish};
+use console::output::{Output, ROOM, finish};
 use desk::desk::{Desk, Flags, empty, flushed};
 use desk::line::read;
 use desk::reply;
@@ -31,14 +31,14 @@ fn read_on(fd: i32, d: Desk, at: Input, text: &mut [u8; INPUT]) -> Input
 }
 
 // The list can't be read on from this line.
-fn unread(out: &mut [u8; ROOM], at: usize, line: u64) -> u8 {
+fn unread(out: &mut Output, at: usize, line: u64) -> u8 {
     let end = error::unread(out, at, line);
     finish(out, end);
     2
 }
 
 // What is still to be written goes out. The status: 2 where input or output failed, else the desk's.
-fn end(d: Desk, failed: bool, name: &[u8], out: &mut [u8; ROOM]) -> u8 {
+fn end(d: Desk, failed: bool, name: &[u8], out: &mut Output) -> u8 {
     if failed {
         os::fail(name);
         return unread(out, d.out, wrapping_add_u64(d.line, 1));
@@ -63,7 +63,7 @@ fn run_lines(
     places: &mut [f32; 1024],
     answers: &mut [u64; 8],
     table: &mut [u64; TABLE],
-    out: &mut [u8; ROOM],
+    out: &mut Output,
 ) -> u8 {
     let mut h = unused(samples, table);
     let mut p = untold();

@@ -8,7 +8,7 @@ ghost use Rattle.desk.specs.Asked.{Asks, IsRun};
 use super::practice;
 use super::practice::Practice;
 use console::input::{Input, ROOM as INPUT};
-use console::output::ROOM;
+use console::output::Output;
 use desk::desk::{CALL, Desk, END, OPEN, RADIO, STATE, numbered, written};
 use desk::key;
 use desk::reply::Became;
@@ -74,7 +74,7 @@ fn put_account(
     a: Account,
     at: usize,
     table: &[u64; TABLE],
-    out: &mut [u8; ROOM],
+    out: &mut Output,
 ) -> usize
     requires { Standing s table.now a }
 {
@@ -82,7 +82,7 @@ fn put_account(
     key::put_rows(out, at, table, a, end)
 }
 
-fn ended(h: Held, d: Desk, table: &[u64; TABLE], out: &mut [u8; ROOM]) -> Desk
+fn ended(h: Held, d: Desk, table: &[u64; TABLE], out: &mut Output) -> Desk
     requires { Kept h table.now }
 {
     if !h.stands {
@@ -93,7 +93,7 @@ fn ended(h: Held, d: Desk, table: &[u64; TABLE], out: &mut [u8; ROOM]) -> Desk
     written(d, put_account(s, a, d.out, table, out))
 }
 
-fn shown(s: Session, d: Desk, out: &mut [u8; ROOM]) -> Desk {
+fn shown(s: Session, d: Desk, out: &mut Output) -> Desk {
     let start = numbered(out, d);
     written(d, state::tell(out, start, s))
 }
@@ -104,7 +104,7 @@ pub(crate) fn told(
     p: Practice,
     d: Desk,
     table: &[u64; TABLE],
-    out: &mut [u8; ROOM],
+    out: &mut Output,
 ) -> Desk
     requires { Kept h table.now }
 {

@@ -4,7 +4,7 @@ use text::Spelt;
 
 // A double and an f32 stand by their bits, and a refusal by its number in 01. Absent is what 01 gives no number, such as "no
 // overload bits". Octets stand in the room that the case was read into, as many as it gave.
-#[derive(Drop)]
+#[derive(Clone, Copy)]
 pub enum Answer {
     Number(u64),
     Double(u64),

@@ -5,7 +5,7 @@ use super::words::{Word, decode, word_at};
 use text::Spelt;
 
 // Numbers from the first on, with how many there are, and how many octets stand in the caller's room.
-#[derive(Drop)]
+#[derive(Clone, Copy)]
 pub struct Given {
     pub numbers: [u64; 6],
     pub count: usize,
@@ -14,7 +14,7 @@ pub struct Given {
 }
 
 // The numbers up to the first word that is none, and where they end.
-#[derive(Drop)]
+#[derive(Clone, Copy)]
 struct Numbers {
     values: [u64; 6],
     count: usize,
@@ -64,7 +64,7 @@ fn equals(line: &[u8], at: usize) -> Word
     Word { start: at, end: at }
 }
 
-#[derive(Drop)]
+#[derive(Clone, Copy)]
 pub struct Case {
     pub name: Word,
     pub given: Given,
@@ -73,7 +73,7 @@ pub struct Case {
 }
 
 // The expected word is the last of the line, after a sign of equality of its own.
-#[derive(Drop)]
+#[derive(Clone, Copy)]
 struct Last {
     word: Word,
     fine: bool,

@@ -1,7 +1,7 @@
 // Tables of functions: a row for each, a line of its name and of what it is given, a count of numbers and an o for octets.
 use super::words::{line_end, next_line, word_at};
 
-#[derive(Drop)]
+#[derive(Clone, Copy)]
 pub enum Found {
     Row(usize),
     Nothing,

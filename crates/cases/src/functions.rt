@@ -7,7 +7,7 @@ use probes::{double_cases, octet_cases, packet_cases, wire_cases};
 use radio_probes::radio_cases;
 
 // A function by its row in the table of its group.
-#[derive(Drop)]
+#[derive(Clone, Copy)]
 pub(crate) enum Function {
     Octet(usize),
     Double(usize),

@@ -6,10 +6,10 @@ use super::tally::Tally;
 use casebook::answer::{Answer, ROOM as OCTETS, is_as};
 use casebook::case::{Case, read};
 use casebook::report;
-use console::output::ROOM;
+use console::output::Output;
 
 // Whether a case came as expected, and how much is written then.
-#[derive(Drop)]
+#[derive(Clone, Copy)]
 struct Outcome {
     fine: bool,
     out: usize,
@@ -21,7 +21,7 @@ fn told(
     came: &[u8],
     expected: &[u8],
     room: &mut [u8],
-    out: &mut [u8; ROOM],
+    out: &mut Output,
     at: usize,
 ) -> Outcome {
     let fine = is_as(a, came, expected, room);
@@ -43,7 +43,7 @@ fn one_case(
     c: Case,
     given: &mut [u8],
     wanted: &mut [u8],
-    out: &mut [u8; ROOM],
+    out: &mut Output,
     at: usize,
 ) -> Outcome
     requires start_le_end { (c.name.start ≤ c.name.end) × (c.name.end ≤ length line.now) }
@@ -62,7 +62,7 @@ fn one_case(
 }
 
 // A line that is not blank.
-fn one_told(line: &[u8], number: u64, out: &mut [u8; ROOM], at: usize) -> Outcome {
+fn one_told(line: &[u8], number: u64, out: &mut Output, at: usize) -> Outcome {
     let mut given = [0u8; OCTETS];
     let mut wanted = [0u8; OCTETS];
     let c = read(line, &mut given);
@@ -79,7 +79,7 @@ fn one_told(line: &[u8], number: u64, out: &mut [u8; ROOM], at: usize) -> Outcom
 }
 
 // A comment runs to the line's end.
-pub(crate) fn one_line(line: &[u8], t: Tally, out: &mut [u8; ROOM]) -> Tally {
+pub(crate) fn one_line(line: &[u8], t: Tally, out: &mut Output) -> Tally {
     let n = text::find(line, b'#');
     if text::past(&line[0..n], b' ') == n {
         return t;

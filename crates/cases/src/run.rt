@@ -5,13 +5,13 @@ use super::one::one_line;
 use super::tally::{Tally, empty};
 use casebook::report::{too_long, total, unread};
 use console::input::{Input, ROOM as INPUT, fill, is_cut, next, nothing};
-use console::output::{ROOM, finish, flush};
+use console::output::{Output, ROOM, finish, flush};
 use libc::STDIN_FILENO;
 use std::num::wrapping_add_u64;
 
 // A line longer than the room is a case not as expected and the last that is read: what follows of it is no line of its own, and
 // must not pass for a case.
-fn turn(room: &[u8; INPUT], at: Input, t: Tally, out: &mut [u8; ROOM]) -> Tally
+fn turn(room: &[u8; INPUT], at: Input, t: Tally, out: &mut Output) -> Tally
     requires { Within at }
 {
     if at.too_long {
@@ -40,7 +40,7 @@ fn read_on(room: &mut [u8; INPUT], at: Input, out: usize) -> Input
 }
 
 // An input that failed is told, and counts as a case not as expected: a cut input would pass with the cases that are left.
-fn end(t: Tally, failed: bool, out: &mut [u8; ROOM]) -> Tally {
+fn end(t: Tally, failed: bool, out: &mut Output) -> Tally {
     if !failed {
         return t;
     }
@@ -48,13 +48,13 @@ fn end(t: Tally, failed: bool, out: &mut [u8; ROOM]) -> Tally {
     t.next_case(false, unread(out, t.out, wrapping_add_u64(t.line, 1)))
 }
 
-fn told(t: Tally, out: &mut [u8; ROOM]) {
+fn told(t: Tally, out: &mut Output) {
     let end = total(out, t.out, t.cases, t.wrong);
     finish(out, end);
 }
 
 // To the input's end. A proved loop has to end: it counts its turns down, from a number that no run uses up.
-pub(crate) fn run(room: &mut [u8; INPUT], out: &mut [u8; ROOM]) {
+pub(crate) fn run(room: &mut [u8; INPUT], out: &mut Output) {
     let mut t = empty();
     let mut at = nothing();
     let mut turns = u64::MAX;

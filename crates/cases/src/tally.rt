@@ -1,7 +1,7 @@
 // How many cases there were, and where the program is between two lines.
 use std::num::wrapping_add_u64;
 
-#[derive(Drop)]
+#[derive(Clone, Copy)]
 pub(crate) struct Tally {
     pub(crate) cases: u64,
     // not as expected

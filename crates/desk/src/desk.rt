@@ -1,7 +1,7 @@
 // What the program holds between two lines, beside the session and the input.
 ghost use Rattle.std.specs.Prelude.{◌≡◌};
 
-use console::output::{ROOM, flush};
+use console::output::{Output, flush};
 use console::pattern::filled;
 use lines::Expected;
 use tally::account::STRETCHES;
@@ -22,7 +22,7 @@ pub const OPEN: u8 = 4;
 pub const END: u8 = 5;
 
 // What a list is run with.
-#[derive(Drop)]
+#[derive(Clone, Copy)]
 pub struct Flags {
     // a line for each gap
     pub gaps: bool,
@@ -32,7 +32,7 @@ pub struct Flags {
     pub status: bool,
 }
 
-#[derive(Drop)]
+#[derive(Clone, Copy)]
 pub struct Desk {
     // the line's number, and what it asks for
     pub line: u64,
@@ -82,7 +82,7 @@ pub fn written(d: Desk, out: usize) -> Desk {
 }
 
 // A line that can't be read, or not be run: nothing after it is run.
-pub fn stopped(d: Desk, out: &mut [u8; ROOM], e: Expected, line: &[u8]) -> Desk
+pub fn stopped(d: Desk, out: &mut Output, e: Expected, line: &[u8]) -> Desk
     ensures { result.asks ≡ 0 }
 {
     let mut next = d;
@@ -94,14 +94,14 @@ pub fn stopped(d: Desk, out: &mut [u8; ROOM], e: Expected, line: &[u8]) -> Desk
 }
 
 // A read may wait: what is answered is written first, so that whoever writes the list has its answers.
-pub fn flushed(d: Desk, out: &[u8; ROOM]) -> Desk {
+pub fn flushed(d: Desk, out: &mut Output) -> Desk {
     let mut next = d;
     next.out = flush(out, d.out);
     next
 }
 
 // The line's number, before an answer, where it is asked for.
-pub fn numbered(out: &mut [u8; ROOM], d: Desk) -> usize {
+pub fn numbered(out: &mut Output, d: Desk) -> usize {
     if !d.flags.numbered {
         return d.out;
     }

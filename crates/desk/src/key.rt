@@ -1,12 +1,12 @@
 // The rows of the account, each as a line of text.
-use console::output::ROOM;
+use console::output::Output;
 use tally::account::{Account, STRETCHES, TABLE};
 use tally::rows::{End, gap_row, nth_row};
 use telling::key;
 
 // All of them: the stretches, the sums, the counters.
 pub fn put_rows(
-    out: &mut [u8; ROOM],
+    out: &mut Output,
     at: usize,
     table: &[u64; TABLE],
     a: Account,
@@ -26,6 +26,6 @@ pub fn put_rows(
 }
 
 // The gap that an arrival was told, from the account before it.
-pub fn put_gap(out: &mut [u8; ROOM], at: usize, a: Account, datagrams: u64, missing: u64) -> usize {
+pub fn put_gap(out: &mut Output, at: usize, a: Account, datagrams: u64, missing: u64) -> usize {
     key::tell(out, at, gap_row(a, datagrams, missing))
 }

@@ -5,12 +5,12 @@ ghost use Rattle.desk.specs.Asked.{Asks};
 
 use super::desk::{CALL, Desk, END, NOTHING, OPEN, RADIO, STATE, asking, stopped};
 use console::input::{Input, ROOM as INPUT};
-use console::output::ROOM;
+use console::output::Output;
 use lines::{Expected, Read, read_call, read_open};
 use std::num::wrapping_add_u64;
 
 // An `open`: the radio's address and port go to the desk.
-fn open_line(d: Desk, line: &[u8], out: &mut [u8; ROOM]) -> Desk
+fn open_line(d: Desk, line: &[u8], out: &mut Output) -> Desk
     ensures { result.asks ≢ 1 }
 {
     let asked = read_open(line);
@@ -27,7 +27,7 @@ fn open_line(d: Desk, line: &[u8], out: &mut [u8; ROOM]) -> Desk
 }
 
 // What a session answers: there has to be one.
-fn session_line(d: Desk, asks: u8, line: &[u8], out: &mut [u8; ROOM]) -> Desk
+fn session_line(d: Desk, asks: u8, line: &[u8], out: &mut Output) -> Desk
     ensures { result.asks ≢ 1 ⊎ result.asks ≡ asks }
 {
     if !d.is_open {
@@ -42,7 +42,7 @@ fn read_line(
     call: &mut [u64; 8],
     octets: &mut [u8; 2048],
     numbers: &mut [u32; 8193],
-    out: &mut [u8; ROOM],
+    out: &mut Output,
 ) -> Desk
     ensures { Asks result.asks call.new }
 {
@@ -71,7 +71,7 @@ pub fn read(
     call: &mut [u64; 8],
     octets: &mut [u8; 2048],
     numbers: &mut [u32; 8193],
-    out: &mut [u8; ROOM],
+    out: &mut Output,
 ) -> Desk
     requires { Within at }
     ensures { Asks result.asks call.new }

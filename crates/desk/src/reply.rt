@@ -2,14 +2,14 @@
 use super::desk::{CALL, Desk, END, OPEN, numbered, stopped};
 use super::key;
 use answers::{CODE, GAP, VALUE};
-use console::output::{ROOM, put};
+use console::output::{Output, put};
 use console::pattern::filled;
 use lines::Expected;
 use tally::account::Account;
 use telling::answer;
 
 // What became of the line, beside the answer in the lent buffers.
-#[derive(Drop)]
+#[derive(Clone, Copy)]
 pub struct Became {
     // of an `open`: 01's number of the refusal, or 0
     pub refused: u64,
@@ -19,7 +19,7 @@ pub struct Became {
     pub before: Account,
 }
 
-fn put_opened(out: &mut [u8; ROOM], at: usize, refused: u64) -> usize {
+fn put_opened(out: &mut Output, at: usize, refused: u64) -> usize {
     if refused == 0 {
         return put(out, at, b"opened\n");
     }
@@ -27,7 +27,7 @@ fn put_opened(out: &mut [u8; ROOM], at: usize, refused: u64) -> usize {
 }
 
 // The desk of a session just opened, or of none.
-fn opened(d: Desk, out: &mut [u8; ROOM], refused: u64) -> Desk {
+fn opened(d: Desk, out: &mut Output, refused: u64) -> Desk {
     let start = numbered(out, d);
     let mut next = d;
     next.out = put_opened(out, start, refused);
@@ -42,7 +42,7 @@ fn over(d: Desk) -> Desk {
 }
 
 // The gap's line, where an arrival was told one.
-fn put_gap(out: &mut [u8; ROOM], at: usize, before: Account, answers: &[u64; 8]) -> usize {
+fn put_gap(out: &mut Output, at: usize, before: Account, answers: &[u64; 8]) -> usize {
     let code = answers[CODE];
     if code < GAP {
         return at;
@@ -57,7 +57,7 @@ fn put_answer(
     packets: &[u8; 8192],
     places: &[f32; 1024],
     answers: &[u64; 8],
-    out: &mut [u8; ROOM],
+    out: &mut Output,
 ) -> usize {
     let start = numbered(out, d);
     let end = answer::tell(out, start, b.kind, answers, packets, places);
@@ -74,7 +74,7 @@ fn answered(
     packets: &[u8; 8192],
     places: &[f32; 1024],
     answers: &[u64; 8],
-    out: &mut [u8; ROOM],
+    out: &mut Output,
 ) -> Desk {
     let mut next = d;
     next.out = put_answer(d, b, packets, places, answers, out);
@@ -91,7 +91,7 @@ pub fn tell(
     packets: &[u8; 8192],
     places: &[f32; 1024],
     answers: &[u64; 8],
-    out: &mut [u8; ROOM],
+    out: &mut Output,
 ) -> Desk {
     let asks = d.asks;
     match asks {

@@ -3,7 +3,7 @@ ghost use Rattle.std.specs.Prelude.{◌≤◌, ◌<◌};
 
 use super::digest;
 use answers::{CLOSED, CODE, EMPTY, GAP, HOLDS, SENT, STATUS, STREAMS, TOOK, VALUE};
-use console::output::{ROOM, named, put};
+use console::output::{Output, named, put};
 use console::pattern::{filled, nth_filled};
 use encoding::words::TAKE_MISSING;
 
@@ -69,7 +69,7 @@ fn written(answers: &[u64; 8]) -> usize {
 }
 
 // The streams in order, and the digest of their packets; or that there are none.
-fn sent(out: &mut [u8; ROOM], at: usize, answers: &[u64; 8], packets: &[u8; 8192]) -> usize {
+fn sent(out: &mut Output, at: usize, answers: &[u64; 8], packets: &[u8; 8192]) -> usize {
     let all = &answers[..];
     let end = nth_filled(out, at, &SENT_TO, b'\n', answers[STREAMS], &all[OFFSETS..]);
     if answers[STREAMS] == 0 {
@@ -78,7 +78,7 @@ fn sent(out: &mut [u8; ROOM], at: usize, answers: &[u64; 8], packets: &[u8; 8192
     digest::tell(out, end, digest::octets(packets, written(answers)))
 }
 
-fn status(out: &mut [u8; ROOM], at: usize, answers: &[u64; 8], packets: &[u8; 8192]) -> usize {
+fn status(out: &mut Output, at: usize, answers: &[u64; 8], packets: &[u8; 8192]) -> usize {
     let end = put(out, at, b"status");
     if answers[STREAMS] == 0 {
         return end;
@@ -87,13 +87,13 @@ fn status(out: &mut [u8; ROOM], at: usize, answers: &[u64; 8], packets: &[u8; 81
     sent(out, next, answers, packets)
 }
 
-fn took(out: &mut [u8; ROOM], at: usize, pairs: u64, places: &[f32; 1024]) -> usize {
+fn took(out: &mut Output, at: usize, pairs: u64, places: &[f32; 1024]) -> usize {
     let end = named(out, at, b"took ", pairs);
     digest::tell(out, end, digest::samples(places, pairs as usize))
 }
 
 // An answer that is its text alone.
-fn plain(out: &mut [u8; ROOM], at: usize, code: u64, value: u64) -> usize {
+fn plain(out: &mut Output, at: usize, code: u64, value: u64) -> usize {
     if code > GAP {
         return filled(out, at, b"gap #", &[value]);
     }
@@ -101,7 +101,7 @@ fn plain(out: &mut [u8; ROOM], at: usize, code: u64, value: u64) -> usize {
 }
 
 // What a slot held, after the drain's name.
-fn slot(out: &mut [u8; ROOM], at: usize, kind: u64, code: u64, value: u64) -> usize {
+fn slot(out: &mut Output, at: usize, kind: u64, code: u64, value: u64) -> usize {
     if kind == TAKE_MISSING {
         let end = put(out, at, b"missing ");
         return plain(out, end, code, value);
@@ -111,7 +111,7 @@ fn slot(out: &mut [u8; ROOM], at: usize, kind: u64, code: u64, value: u64) -> us
 }
 
 fn answer(
-    out: &mut [u8; ROOM],
+    out: &mut Output,
     at: usize,
     kind: u64,
     answers: &[u64; 8],
@@ -131,7 +131,7 @@ fn answer(
 
 // The answer of a call of this kind (encoding::words).
 pub fn tell(
-    out: &mut [u8; ROOM],
+    out: &mut Output,
     at: usize,
     kind: u64,
     answers: &[u64; 8],

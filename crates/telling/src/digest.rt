@@ -1,11 +1,11 @@
 // Adler-32 (RFC 1950). Of at most 8192 octets neither sum passes a u64, so that both are reduced once, at the end.
 ghost use Rattle.std.specs.Prelude.{◌+◌, ◌*◌, ◌≤◌, length};
 
-use console::output::{ROOM, named_hex};
+use console::output::{Output, named_hex};
 
 const MOST: usize = 8192;
 
-#[derive(Drop)]
+#[derive(Clone, Copy)]
 struct Sums {
     a: u64,
     b: u64,
@@ -88,6 +88,6 @@ pub(crate) fn samples(p: &[f32; 1024], n: usize) -> u32 {
     0
 }
 
-pub(crate) fn tell(out: &mut [u8; ROOM], at: usize, d: u32) -> usize {
+pub(crate) fn tell(out: &mut Output, at: usize, d: u32) -> usize {
     named_hex(out, at, b" digest ", d as u64, 8)
 }

@@ -1,5 +1,5 @@
 // A line that can't be read, or a list: the line's number, what was expected, and what stands there.
-use console::output::{ROOM, named_hex, number, put};
+use console::output::{Output, named_hex, number, put};
 use console::pattern::{filled, nth_filled};
 use lines::key::KEYS;
 use lines::{Expected, LONGEST, first_word, found};
@@ -39,7 +39,7 @@ fn place(e: Expected) -> u64 {
     }
 }
 
-fn what(out: &mut [u8; ROOM], at: usize, e: Expected) -> usize {
+fn what(out: &mut Output, at: usize, e: Expected) -> usize {
     let end = nth_filled(out, at, &EXPECTED, b'\n', place(e), &[0]);
     if let Expected::ValueOf(key) = e {
         return nth_filled(out, end, &KEYS, b' ', key as u64, &[0]);
@@ -51,7 +51,7 @@ fn what(out: &mut [u8; ROOM], at: usize, e: Expected) -> usize {
 const SHOWN: usize = 40;
 
 // An octet that doesn't print, or is the backslash, by its two hexadecimal digits.
-fn octet(out: &mut [u8; ROOM], at: usize, x: u8) -> usize {
+fn octet(out: &mut Output, at: usize, x: u8) -> usize {
     match x {
         92 => put(out, at, b"\\x5c"),
         33..=126 => put(out, at, &[x]),
@@ -59,7 +59,7 @@ fn octet(out: &mut [u8; ROOM], at: usize, x: u8) -> usize {
     }
 }
 
-fn octets(out: &mut [u8; ROOM], at: usize, word: &[u8]) -> usize {
+fn octets(out: &mut Output, at: usize, word: &[u8]) -> usize {
     let mut end = at;
     let mut i = 0;
     while i < word.len() {
@@ -69,7 +69,7 @@ fn octets(out: &mut [u8; ROOM], at: usize, word: &[u8]) -> usize {
     end
 }
 
-fn quoted(out: &mut [u8; ROOM], at: usize, word: &[u8]) -> usize {
+fn quoted(out: &mut Output, at: usize, word: &[u8]) -> usize {
     let one = put(out, at, b"'");
     if word.len() <= SHOWN {
         let two = octets(out, one, word);
@@ -93,7 +93,7 @@ fn is_byte_order_mark(word: &[u8]) -> bool {
     word[2] == 0xbf
 }
 
-fn stands(out: &mut [u8; ROOM], at: usize, word: &[u8]) -> usize {
+fn stands(out: &mut Output, at: usize, word: &[u8]) -> usize {
     if word.len() == 0 {
         return put(out, at, b"the end of the line");
     }
@@ -111,7 +111,7 @@ fn word_of(line: &[u8], e: Expected) -> Word {
     }
 }
 
-fn put_word(out: &mut [u8; ROOM], at: usize, line: &[u8], e: Expected) -> usize {
+fn put_word(out: &mut Output, at: usize, line: &[u8], e: Expected) -> usize {
     let word = word_of(line, e);
     let start = word.start;
     let end = word.end;
@@ -121,7 +121,7 @@ fn put_word(out: &mut [u8; ROOM], at: usize, line: &[u8], e: Expected) -> usize 
     at
 }
 
-fn put_found(out: &mut [u8; ROOM], at: usize, line: &[u8], e: Expected, stretches: usize) -> usize {
+fn put_found(out: &mut Output, at: usize, line: &[u8], e: Expected, stretches: usize) -> usize {
     match e {
         Expected::ShorterLine => filled(out, at, b"more than # octets", &[LONGEST as u64]),
         Expected::FewerStretches => number(out, at, stretches as u64),
@@ -131,7 +131,7 @@ fn put_found(out: &mut [u8; ROOM], at: usize, line: &[u8], e: Expected, stretche
 
 // The line of this number can't be read, or not be run: what was expected there. The stretches are those of the session so far.
 pub fn tell(
-    out: &mut [u8; ROOM],
+    out: &mut Output,
     at: usize,
     number: u64,
     e: Expected,
@@ -146,7 +146,7 @@ pub fn tell(
 }
 
 // The line of this number is not there whole: the list's input failed.
-pub fn unread(out: &mut [u8; ROOM], at: usize, number: u64) -> usize {
+pub fn unread(out: &mut Output, at: usize, number: u64) -> usize {
     filled(
         out,
         at,

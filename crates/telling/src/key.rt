@@ -1,5 +1,5 @@
 // The rows of a session's account (tally::rows), as lines of text.
-use console::output::{ROOM, put};
+use console::output::{Output, put};
 use console::pattern::nth_filled;
 use tally::rows::Row;
 
@@ -9,7 +9,7 @@ const LINES: [u8; 225] = *b"stretch # at # last # first # highest # samples # mi
     counters dropped # gaps # malformed # loss #\n\
     gap stretch # after # datagrams # samples #";
 
-pub fn tell(out: &mut [u8; ROOM], at: usize, r: Row) -> usize {
+pub fn tell(out: &mut Output, at: usize, r: Row) -> usize {
     let numbers = r.numbers;
     let end = nth_filled(out, at, &LINES, b'\n', r.line, &numbers);
     put(out, end, b"\n")

@@ -1,8 +1,8 @@
 // What a practice radio keeps, as a line of text (2026-02).
-use console::output::{ROOM, put};
+use console::output::{Output, put};
 use console::pattern::filled;
 
-fn on(out: &mut [u8; ROOM], at: usize, b: bool) -> usize {
+fn on(out: &mut Output, at: usize, b: bool) -> usize {
     if b {
         put(out, at, b"on")
     } else {
@@ -12,7 +12,7 @@ fn on(out: &mut [u8; ROOM], at: usize, b: bool) -> usize {
 
 // The numbers that stand before its run, and those behind it.
 pub fn tell(
-    out: &mut [u8; ROOM],
+    out: &mut Output,
     at: usize,
     before: &[u64; 7],
     run: bool,

@@ -1,6 +1,6 @@
 // What a session holds, as a line of text.
 use attenuator::{Controller, Moment};
-use console::output::{ROOM, named, number, put, yes};
+use console::output::{Output, named, number, put, yes};
 use console::pattern::filled;
 use model::receiver::{Anchor, Parked, Pending, Reading, Receiver, Slot, Window};
 use model::session::{Attenuation, Attenuator, Clocks, Common, Session};
@@ -12,43 +12,43 @@ fn wide(x: u32) -> u64 {
     x as u64
 }
 
-fn none(out: &mut [u8; ROOM], at: usize) -> usize {
+fn none(out: &mut Output, at: usize) -> usize {
     put(out, at, b"none")
 }
 
-fn expected(out: &mut [u8; ROOM], at: usize, e: Expected) -> usize {
+fn expected(out: &mut Output, at: usize, e: Expected) -> usize {
     match e {
         Expected::Nothing => none(out, at),
         Expected::Next(n) => number(out, at, n as u64),
     }
 }
 
-fn anchor(out: &mut [u8; ROOM], at: usize, a: Anchor) -> usize {
+fn anchor(out: &mut Output, at: usize, a: Anchor) -> usize {
     match a {
         Anchor::Unset => none(out, at),
         Anchor::At(t) => number(out, at, t),
     }
 }
 
-fn slot(out: &mut [u8; ROOM], at: usize, s: Slot) -> usize {
+fn slot(out: &mut Output, at: usize, s: Slot) -> usize {
     match s {
         Slot::Empty => none(out, at),
         Slot::Holds(n) => number(out, at, n),
     }
 }
 
-fn moment(out: &mut [u8; ROOM], at: usize, m: Moment) -> usize {
+fn moment(out: &mut Output, at: usize, m: Moment) -> usize {
     match m {
         Moment::Never => none(out, at),
         Moment::At(t) => number(out, at, t),
     }
 }
 
-fn three(out: &mut [u8; ROOM], at: usize, a: u64, b: u64, c: u64) -> usize {
+fn three(out: &mut Output, at: usize, a: u64, b: u64, c: u64) -> usize {
     filled(out, at, b"# # #", &[a, b, c])
 }
 
-fn window(out: &mut [u8; ROOM], at: usize, w: Window) -> usize {
+fn window(out: &mut Output, at: usize, w: Window) -> usize {
     match w {
         Window::Shut => none(out, at),
         Window::Open {
@@ -59,7 +59,7 @@ fn window(out: &mut [u8; ROOM], at: usize, w: Window) -> usize {
     }
 }
 
-fn controller(out: &mut [u8; ROOM], at: usize, c: Controller) -> usize {
+fn controller(out: &mut Output, at: usize, c: Controller) -> usize {
     let run = c.run_start;
     let overload = c.last_overload;
     let one = number(out, at, c.db as u64);
@@ -70,7 +70,7 @@ fn controller(out: &mut [u8; ROOM], at: usize, c: Controller) -> usize {
     named(out, five, b" quiet ", c.quiet_since)
 }
 
-fn attenuation(out: &mut [u8; ROOM], at: usize, a: Attenuation) -> usize {
+fn attenuation(out: &mut Output, at: usize, a: Attenuation) -> usize {
     match a {
         Attenuation::Off => put(out, at, b"off"),
         Attenuation::On(c) => controller(out, at, c),
@@ -78,7 +78,7 @@ fn attenuation(out: &mut [u8; ROOM], at: usize, a: Attenuation) -> usize {
 }
 
 // The tracker and the queue.
-fn tracked(out: &mut [u8; ROOM], at: usize, t: SeqTracker, waiting: usize) -> usize {
+fn tracked(out: &mut Output, at: usize, t: SeqTracker, waiting: usize) -> usize {
     let next = t.expected;
     let one = put(out, at, b"state expected ");
     let two = expected(out, one, next);
@@ -87,13 +87,13 @@ fn tracked(out: &mut [u8; ROOM], at: usize, t: SeqTracker, waiting: usize) -> us
 }
 
 // The wait anchor.
-fn waited(out: &mut [u8; ROOM], at: usize, r: Reading) -> usize {
+fn waited(out: &mut Output, at: usize, r: Reading) -> usize {
     let entered = r.wait_entered;
     let end = put(out, at, b" anchor ");
     anchor(out, end, entered)
 }
 
-fn readings(out: &mut [u8; ROOM], at: usize, valid: u64, accepted: u64, taken: u64) -> usize {
+fn readings(out: &mut Output, at: usize, valid: u64, accepted: u64, taken: u64) -> usize {
     filled(
         out,
         at,
@@ -102,13 +102,13 @@ fn readings(out: &mut [u8; ROOM], at: usize, valid: u64, accepted: u64, taken: u
     )
 }
 
-fn parked(out: &mut [u8; ROOM], at: usize, p: Parked) -> usize {
+fn parked(out: &mut Output, at: usize, p: Parked) -> usize {
     let open = p.window;
     let end = put(out, at, b" window ");
     window(out, end, open)
 }
 
-fn pending(out: &mut [u8; ROOM], at: usize, p: Pending) -> usize {
+fn pending(out: &mut Output, at: usize, p: Pending) -> usize {
     let missing = p.missing;
     let discontinuity = p.discontinuity;
     let one = put(out, at, b" missing ");
@@ -118,7 +118,7 @@ fn pending(out: &mut [u8; ROOM], at: usize, p: Pending) -> usize {
 }
 
 // A receiver, without its stall.
-fn receiver(out: &mut [u8; ROOM], at: usize, r: Receiver) -> usize {
+fn receiver(out: &mut Output, at: usize, r: Receiver) -> usize {
     let tracker = r.tracker;
     let reading = r.reading;
     let window = r.parked;
@@ -136,14 +136,14 @@ fn receiver(out: &mut [u8; ROOM], at: usize, r: Receiver) -> usize {
     pending(out, four, slots)
 }
 
-fn stall(out: &mut [u8; ROOM], at: usize, e: StallEpisode) -> usize {
+fn stall(out: &mut Output, at: usize, e: StallEpisode) -> usize {
     let one = put(out, at, b" delivering ");
     let two = yes(out, one, e.delivering);
     let three = put(out, two, b" stalled ");
     yes(out, three, e.pending)
 }
 
-fn counts(out: &mut [u8; ROOM], at: usize, seq: [u32; 4]) -> usize {
+fn counts(out: &mut Output, at: usize, seq: [u32; 4]) -> usize {
     let general = wide(seq[0]);
     let rx = wide(seq[1]);
     let tx = wide(seq[2]);
@@ -151,7 +151,7 @@ fn counts(out: &mut [u8; ROOM], at: usize, seq: [u32; 4]) -> usize {
     filled(out, at, b" counts # # # #", &[general, rx, tx, high])
 }
 
-fn clocks(out: &mut [u8; ROOM], at: usize, c: Clocks) -> usize {
+fn clocks(out: &mut Output, at: usize, c: Clocks) -> usize {
     filled(
         out,
         at,
@@ -160,7 +160,7 @@ fn clocks(out: &mut [u8; ROOM], at: usize, c: Clocks) -> usize {
     )
 }
 
-fn attenuator(out: &mut [u8; ROOM], at: usize, a: Attenuator) -> usize {
+fn attenuator(out: &mut Output, at: usize, a: Attenuator) -> usize {
     let now = a.attenuation;
     let one = put(out, at, b" attenuation ");
     let two = attenuation(out, one, now);
@@ -168,7 +168,7 @@ fn attenuator(out: &mut [u8; ROOM], at: usize, a: Attenuator) -> usize {
 }
 
 // The counts, the clocks and the attenuation.
-fn common(out: &mut [u8; ROOM], at: usize, c: Common) -> usize {
+fn common(out: &mut Output, at: usize, c: Common) -> usize {
     let seq = c.seq;
     let sent = c.clocks;
     let now = c.attenuator;
@@ -177,7 +177,7 @@ fn common(out: &mut [u8; ROOM], at: usize, c: Common) -> usize {
     attenuator(out, two, now)
 }
 
-fn parts(out: &mut [u8; ROOM], at: usize, r: Receiver, c: Common) -> usize {
+fn parts(out: &mut Output, at: usize, r: Receiver, c: Common) -> usize {
     let episode = r.stall;
     let one = receiver(out, at, r);
     let two = named(out, one, b" malformed ", wide(c.consecutive_malformed));
@@ -186,7 +186,7 @@ fn parts(out: &mut [u8; ROOM], at: usize, r: Receiver, c: Common) -> usize {
 }
 
 // What a session holds.
-pub fn tell(out: &mut [u8; ROOM], at: usize, s: Session) -> usize {
+pub fn tell(out: &mut Output, at: usize, s: Session) -> usize {
     let r = s.receiver;
     let c = s.common;
     parts(out, at, r, c)

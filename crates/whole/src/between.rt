@@ -1,6 +1,6 @@
 // What the program holds between two lines, beside the settings, the calls gathered and the input.
 use batch::list::{List, none};
-use console::output::{ROOM, flush};
+use console::output::{Output, flush};
 use console::pattern::filled;
 use lines::Expected;
 use telling::error;
@@ -12,7 +12,7 @@ pub(crate) const OPEN: u8 = 1;
 
 pub(crate) const END: u8 = 2;
 
-#[derive(Drop)]
+#[derive(Clone, Copy)]
 pub(crate) struct Desk {
     // the line's number, and what it asks for
     pub(crate) line: u64,
@@ -78,12 +78,12 @@ fn halted(d: Desk, out: usize) -> Desk {
 }
 
 // A line that can't be read, or not be run.
-pub(crate) fn stopped(d: Desk, out: &mut [u8; ROOM], e: Expected, line: &[u8]) -> Desk {
+pub(crate) fn stopped(d: Desk, out: &mut Output, e: Expected, line: &[u8]) -> Desk {
     halted(d, error::tell(out, d.out, d.line, e, line, 0))
 }
 
 // A session that is longer than the rooms, told by the line of its `open`.
-pub(crate) fn too_long(d: Desk, out: &mut [u8; ROOM]) -> Desk {
+pub(crate) fn too_long(d: Desk, out: &mut Output) -> Desk {
     let end = filled(
         out,
         d.out,
@@ -94,6 +94,6 @@ pub(crate) fn too_long(d: Desk, out: &mut [u8; ROOM]) -> Desk {
 }
 
 // A read may wait: what is answered is written first.
-pub(crate) fn flushed(d: Desk, out: &[u8; ROOM]) -> Desk {
+pub(crate) fn flushed(d: Desk, out: &mut Output) -> Desk {
     written(d, flush(out, d.out))
 }

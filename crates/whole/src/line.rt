@@ -4,12 +4,12 @@ ghost use Rattle.console.specs.Input.{Within};
 use super::between::{Desk, NOTHING, OPEN, asking, over, stopped, too_long};
 use batch::list::{NUMBERS, OCTETS, WORDS, add, fits};
 use console::input::{Input, ROOM as INPUT};
-use console::output::ROOM;
+use console::output::Output;
 use lines::{Expected, MOST_NUMBERS, MOST_OCTETS, Read, read_call, read_open};
 use std::num::wrapping_add_u64;
 
 // An `open` has to be readable. Its settings are taken once the session before it is run.
-fn open_line(d: Desk, line: &[u8], out: &mut [u8; ROOM]) -> Desk {
+fn open_line(d: Desk, line: &[u8], out: &mut Output) -> Desk {
     let asked = read_open(line);
     let read = asked.read;
     if let Read::Unread(e) = read {
@@ -28,7 +28,7 @@ fn call_line(
     calls: &mut [u64; WORDS],
     octets: &mut [u8; OCTETS],
     numbers: &mut [u32; NUMBERS],
-    out: &mut [u8; ROOM],
+    out: &mut Output,
 ) -> Desk {
     if !d.is_open {
         return stopped(d, out, Expected::Open, line);
@@ -50,7 +50,7 @@ fn read_line(
     calls: &mut [u64; WORDS],
     octets: &mut [u8; OCTETS],
     numbers: &mut [u32; NUMBERS],
-    out: &mut [u8; ROOM],
+    out: &mut Output,
 ) -> Desk {
     let mut call = [0u64; 8];
     let mut datagram = [0u8; MOST_OCTETS];
@@ -80,7 +80,7 @@ pub(crate) fn read(
     calls: &mut [u64; WORDS],
     octets: &mut [u8; OCTETS],
     numbers: &mut [u32; NUMBERS],
-    out: &mut [u8; ROOM],
+    out: &mut Output,
 ) -> Desk
     requires { Within at }
 {

@@ -8,7 +8,7 @@ use super::sessions;
 use super::tell::tell;
 use batch::list::{CALLS, NUMBERS, OCTETS, PACKETS, PLACES, WORDS, none};
 use console::input::{Input, ROOM as INPUT, fill, is_cut, next, nothing};
-use console::output::{ROOM, finish};
+use console::output::{Output, ROOM, finish};
 use libc::STDIN_FILENO;
 use lines::{Opening, read_open};
 use opening::settings::{refusal, validate_protocol2};
@@ -46,7 +46,7 @@ fn run_session(
     calls: &[u64; WORDS],
     octets: &[u8; OCTETS],
     numbers: &[u32; NUMBERS],
-    out: &mut [u8; ROOM],
+    out: &mut Output,
 ) -> Desk
     requires { n ≤ 1024 }
 {
@@ -73,7 +73,7 @@ fn ended(
     calls: &[u64; WORDS],
     octets: &[u8; OCTETS],
     numbers: &[u32; NUMBERS],
-    out: &mut [u8; ROOM],
+    out: &mut Output,
 ) -> Desk {
     let n = d.list.calls;
     if d.asks == NOTHING {
@@ -105,7 +105,7 @@ fn read_on(d: Desk, at: Input, text: &mut [u8; INPUT]) -> Input
 }
 
 // What is still to be written goes out. An input that failed is no end of the list: that is told, and its session is not run.
-fn end(d: Desk, failed: bool, out: &mut [u8; ROOM]) {
+fn end(d: Desk, failed: bool, out: &mut Output) {
     if !failed {
         finish(out, d.out);
         return;
@@ -121,7 +121,7 @@ fn run_lines(
     calls: &mut [u64; WORDS],
     octets: &mut [u8; OCTETS],
     numbers: &mut [u32; NUMBERS],
-    out: &mut [u8; ROOM],
+    out: &mut Output,
 ) {
     let mut o = read_open(b"open");
     let mut d = empty();

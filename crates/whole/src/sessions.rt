@@ -15,7 +15,7 @@ use stream::F32_PER_DATAGRAM;
 use tally::rows::End;
 
 // In Hz, Hz and dB. Rate and centre are whole where the settings are accepted.
-#[derive(Drop)]
+#[derive(Clone, Copy)]
 pub(crate) struct Tuning {
     pub(crate) rate: u64,
     pub(crate) centre: u64,
@@ -23,7 +23,7 @@ pub(crate) struct Tuning {
 }
 
 // What a run left.
-#[derive(Drop)]
+#[derive(Clone, Copy)]
 pub(crate) struct Left {
     // 01's number of the refusal of the settings, or 0
     pub(crate) refused: u64,

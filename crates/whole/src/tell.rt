@@ -5,10 +5,10 @@ use super::between::{Desk, too_long, written};
 use super::sessions::{Left, Tuning};
 use batch::list::{OCTETS, PACKETS, PLACES, WORDS};
 use batch::{accounts, replies};
-use console::output::{ROOM, put};
+use console::output::{Output, put};
 use console::pattern::filled;
 
-fn put_tuned(out: &mut [u8; ROOM], at: usize, t: Tuning) -> usize {
+fn put_tuned(out: &mut Output, at: usize, t: Tuning) -> usize {
     filled(
         out,
         at,
@@ -27,7 +27,7 @@ pub(crate) fn tell(
     packets: &[u8; PACKETS],
     places: &[f32; PLACES],
     answers: &[u64; WORDS],
-    out: &mut [u8; ROOM],
+    out: &mut Output,
 ) -> Desk
     requires { n ≤ 1024 }
 {
