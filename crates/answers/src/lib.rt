@@ -62,7 +62,7 @@ pub const VALUE: usize = 1;
 
 pub const STREAMS: usize = 2;
 
-#[derive(Drop)]
+#[derive(Clone, Copy)]
 pub struct Code {
     pub code: u64,
     pub value: u64,

@@ -15,7 +15,7 @@ const STATUS_PORT_OFFSET: u16 = 1;
 // The highest port that is read and ignored.
 const LAST_IGNORED_PORT_OFFSET: u16 = 10;
 
-#[derive(Drop)]
+#[derive(Clone, Copy)]
 pub(crate) enum Route {
     // a valid I/Q datagram, with its count
     Iq(u32),

@@ -13,7 +13,7 @@ pub(crate) const EXPONENT: u64 = 0x10_0000_0000_0000;
 // The largest u64.
 pub(crate) const MOST: u64 = 0xffff_ffff_ffff_ffff;
 
-#[derive(Drop)]
+#[derive(Clone, Copy)]
 pub(crate) struct Parts {
     pub(crate) negative: bool,
     pub(crate) digits: u64,
@@ -42,7 +42,7 @@ pub(crate) fn apart(x: f64) -> Parts
     }
 }
 
-#[derive(Drop)]
+#[derive(Clone, Copy)]
 pub(crate) struct Mixed {
     pub(crate) whole: u64,
     pub(crate) rest: u64,

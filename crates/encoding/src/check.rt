@@ -6,7 +6,7 @@ ghost use Rattle.encoding.specs.Lists.{check_from, outcome_in, is_ran};
 use super::words::{Amounts, CALL_LEN, has_room, is_call, nothing, plus, taken_by, words_at};
 
 // Whether a list was run, or why not: then nothing was written, and the session is as it was.
-#[derive(Drop)]
+#[derive(Clone, Copy)]
 pub enum Outcome {
     Ran,
     // the settings were refused

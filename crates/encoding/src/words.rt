@@ -42,7 +42,7 @@ pub const TAKE_STALLED: u64 = 7;
 // In place of an IPv4 address: the sender has an IPv6 one.
 pub const IPV6: u64 = 4294967296;
 
-#[derive(Drop)]
+#[derive(Clone, Copy)]
 pub struct Words {
     // BEGIN to TAKE_STALLED
     pub kind: u64,
@@ -61,7 +61,7 @@ pub struct Words {
 }
 
 // So much of each lent buffer.
-#[derive(Drop)]
+#[derive(Clone, Copy)]
 pub struct Amounts {
     pub octets: usize,
     pub numbers: usize,

@@ -16,7 +16,7 @@ use stream::F32_PER_DATAGRAM;
 use tally::account::{Account, TABLE, none};
 use tally::rows::End;
 
-#[derive(Drop)]
+#[derive(Clone, Copy)]
 pub struct Sitting {
     pub session: Session,
     pub account: Account,
@@ -27,7 +27,7 @@ pub struct Sitting {
 
 // What Open gives with these settings and this reading, and an account in which nothing is noted. The number is 01's of the refusal,
 // or 0.
-#[derive(Drop)]
+#[derive(Clone, Copy)]
 pub struct Seated {
     pub sitting: Sitting,
     pub refused: u64,

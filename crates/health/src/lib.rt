@@ -9,7 +9,7 @@ use stream::SAMPLES_PER_DATAGRAM;
 // 2^56: the weight of a u64's highest octet.
 const EIGHTH_OCTET: u64 = 72_057_594_037_927_936;
 
-#[derive(Drop)]
+#[derive(Clone, Copy)]
 pub struct InputHealthCounters {
     pub dropped_packets: u64,
     pub gaps_detected: u64,

@@ -12,7 +12,7 @@ use stream::F32_PER_DATAGRAM;
 use tally::account::TABLE;
 
 // Stands where the account is that of the calls which the session ran since it was opened: only then it is told.
-#[derive(Drop)]
+#[derive(Clone, Copy)]
 pub struct Held {
     pub sitting: Sitting,
     pub stands: bool,

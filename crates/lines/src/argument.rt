@@ -103,7 +103,7 @@ fn argument(t: u8, w: &[u8], room: &mut [u8]) -> Spelt
     up_to(argument_as(t, w, room), most)
 }
 
-#[derive(Drop)]
+#[derive(Clone, Copy)]
 pub(crate) struct Words {
     pub(crate) unread: u8,
     pub(crate) at: usize,

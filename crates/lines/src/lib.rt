@@ -26,7 +26,7 @@ pub const MOST_OCTETS: usize = 2048;
 pub const MOST_NUMBERS: usize = 8193;
 
 // What was expected, as CALLS.md's Errors has it. Open and FewerStretches are for whoever runs the calls.
-#[derive(Drop)]
+#[derive(Clone, Copy)]
 pub enum Expected {
     Call,
     Open,
@@ -45,7 +45,7 @@ pub enum Expected {
 }
 
 // What a line is. Nothing has no words.
-#[derive(Drop)]
+#[derive(Clone, Copy)]
 pub enum Read {
     Nothing,
     Open,
@@ -73,7 +73,7 @@ pub fn read_call(
 }
 
 // What an `open` asks for. One that can't be read has the settings of an `open` that says none.
-#[derive(Drop)]
+#[derive(Clone, Copy)]
 pub struct Opening {
     pub read: Read,
     // the opening reading

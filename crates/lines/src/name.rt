@@ -50,7 +50,7 @@ pub(crate) const BUFFERS: [u64; NAME_COUNT] = [
 ];
 
 // A line's text ends where its comment starts. Its first word ends where it starts if the line has no words.
-#[derive(Drop)]
+#[derive(Clone, Copy)]
 pub(crate) struct Beginning {
     pub(crate) text: usize,
     pub(crate) start: usize,

@@ -84,7 +84,7 @@ const LIMITS: [u64; KEY_COUNT] = [
 ];
 
 // What a word comes to: a key's place goes with a value that can't be read.
-#[derive(Drop)]
+#[derive(Clone, Copy)]
 pub enum Took {
     Taken,
     Unknown,
@@ -173,7 +173,7 @@ fn take_option(w: &[u8], from: usize, to: usize, values: &mut [u64], numbers: &m
 }
 
 // A run of words: what it came to, and where it stopped.
-#[derive(Drop)]
+#[derive(Clone, Copy)]
 pub(crate) struct Run {
     pub(crate) took: Took,
     pub(crate) at: usize,

@@ -13,7 +13,7 @@ use tally::account::{Account, Noted, TABLE, hand};
 use tally::record::{Event, Record};
 
 // What an answer's code tells of the stream.
-#[derive(Drop)]
+#[derive(Clone, Copy)]
 pub(crate) enum Said {
     Nothing,
     Event(Event),

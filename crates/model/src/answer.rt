@@ -5,26 +5,26 @@ use super::session::Session;
 use super::settings::SettingsAnswer;
 use sequence::SeqEvent;
 
-#[derive(Drop)]
+#[derive(Clone, Copy)]
 pub struct Opened {
     pub answer: SettingsAnswer,
     pub session: Session,
 }
 
-#[derive(Drop)]
+#[derive(Clone, Copy)]
 pub enum BeginAnswer {
     Begun,
     NotNow,
     ReadingFell,
 }
 
-#[derive(Drop)]
+#[derive(Clone, Copy)]
 pub struct Begun {
     pub answer: BeginAnswer,
     pub session: Session,
 }
 
-#[derive(Drop)]
+#[derive(Clone, Copy)]
 pub enum PassAnswer {
     Ready,
     SoftStall,
@@ -35,14 +35,14 @@ pub enum PassAnswer {
     NoRoom,
 }
 
-#[derive(Drop)]
+#[derive(Clone, Copy)]
 pub struct Passed {
     pub answer: PassAnswer,
     pub streams: Streams,
     pub session: Session,
 }
 
-#[derive(Drop)]
+#[derive(Clone, Copy)]
 pub enum ArrivalAnswer {
     // a port that is not read, or a status packet that is not
     Ignored,
@@ -60,14 +60,14 @@ pub enum ArrivalAnswer {
     NoRoom,
 }
 
-#[derive(Drop)]
+#[derive(Clone, Copy)]
 pub struct Arrived {
     pub answer: ArrivalAnswer,
     pub streams: Streams,
     pub session: Session,
 }
 
-#[derive(Drop)]
+#[derive(Clone, Copy)]
 pub enum TakeAnswer {
     // so many pairs
     Took(usize),
@@ -77,20 +77,20 @@ pub enum TakeAnswer {
     NothingWaits,
 }
 
-#[derive(Drop)]
+#[derive(Clone, Copy)]
 pub struct Handed {
     pub answer: TakeAnswer,
     pub session: Session,
 }
 
-#[derive(Drop)]
+#[derive(Clone, Copy)]
 pub enum CloseAnswer {
     Closed,
     NotNow,
     NoRoom,
 }
 
-#[derive(Drop)]
+#[derive(Clone, Copy)]
 pub struct Ended {
     pub answer: CloseAnswer,
     pub streams: Streams,
@@ -98,14 +98,14 @@ pub struct Ended {
 }
 
 // What a drain of a slot gave.
-#[derive(Drop)]
+#[derive(Clone, Copy)]
 pub struct Drained {
     pub slot: Slot,
     pub session: Session,
 }
 
 // What the drain of the stall flag gave.
-#[derive(Drop)]
+#[derive(Clone, Copy)]
 pub struct StallTaken {
     pub stalled: bool,
     pub session: Session,

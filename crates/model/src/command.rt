@@ -3,7 +3,7 @@ ghost use Rattle.std.specs.Prelude.{◌≡◌};
 ghost use Rattle.model.specs.Command.{destination_of};
 
 // The streams that a call wrote, in order, each as its offset from the port: the first `count` places. The others are 0.
-#[derive(Drop)]
+#[derive(Clone, Copy)]
 pub struct Streams {
     pub offsets: [u8; 5],
     pub count: usize,

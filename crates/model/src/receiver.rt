@@ -3,14 +3,14 @@ use sequence::SeqTracker;
 use stall::StallEpisode;
 
 // A reading that was taken, or that there is none.
-#[derive(Drop)]
+#[derive(Clone, Copy)]
 pub enum Anchor {
     Unset,
     At(u64),
 }
 
 // The read and the wait that it belongs to.
-#[derive(Drop)]
+#[derive(Clone, Copy)]
 pub struct Reading {
     // the wait anchor: set by the first Begin of a wait, emptied by the next valid I/Q
     pub wait_entered: Anchor,
@@ -18,7 +18,7 @@ pub struct Reading {
     pub entered: Anchor,
 }
 
-#[derive(Drop)]
+#[derive(Clone, Copy)]
 pub enum Window {
     Shut,
     Open {
@@ -32,25 +32,25 @@ pub enum Window {
 }
 
 // An enum that is a field is not stored to, so it stands in a struct of its own.
-#[derive(Drop)]
+#[derive(Clone, Copy)]
 pub struct Parked {
     pub window: Window,
 }
 
 // A slot that is empty and one that holds 0 differ.
-#[derive(Drop)]
+#[derive(Clone, Copy)]
 pub enum Slot {
     Empty,
     Holds(u64),
 }
 
-#[derive(Drop)]
+#[derive(Clone, Copy)]
 pub struct Pending {
     pub missing: Slot,
     pub discontinuity: Slot,
 }
 
-#[derive(Drop)]
+#[derive(Clone, Copy)]
 pub struct Receiver {
     pub tracker: SeqTracker,
     // pairs of the lent samples that were handed out; at 238 none wait

@@ -6,7 +6,7 @@ use health::InputHealthCounters;
 use tuning::alex::AlexWords;
 
 // What the packets carry of the settings, worked out once.
-#[derive(Drop)]
+#[derive(Clone, Copy)]
 pub struct Tuning {
     pub rate_khz: u16,
     pub phase_word: u32,
@@ -14,26 +14,26 @@ pub struct Tuning {
 }
 
 // When each keepalive was last sent; receive and transmit share a clock.
-#[derive(Drop)]
+#[derive(Clone, Copy)]
 pub struct Clocks {
     pub high_priority: u64,
     pub rx_tx_specific: u64,
     pub general: u64,
 }
 
-#[derive(Drop)]
+#[derive(Clone, Copy)]
 pub enum Attenuation {
     Off,
     On(Controller),
 }
 
 // An enum that is a field is not stored to, so it stands in a struct of its own.
-#[derive(Drop)]
+#[derive(Clone, Copy)]
 pub struct Attenuator {
     pub attenuation: Attenuation,
 }
 
-#[derive(Drop)]
+#[derive(Clone, Copy)]
 pub struct Common {
     pub settings: Settings,
     pub tuning: Tuning,
@@ -48,7 +48,7 @@ pub struct Common {
     pub closed: bool,
 }
 
-#[derive(Drop)]
+#[derive(Clone, Copy)]
 pub struct Session {
     pub common: Common,
     pub receiver: Receiver,

@@ -2,14 +2,14 @@
 use tuning::board::BoardInfo;
 
 // Automatic attenuation. What unsaid means is the definition's to say (specs/Settings).
-#[derive(Drop)]
+#[derive(Clone, Copy)]
 pub enum AttenuationChoice {
     Off,
     On,
     Unsaid,
 }
 
-#[derive(Drop)]
+#[derive(Clone, Copy)]
 pub struct Settings {
     // the receiver count
     pub ddc_count: usize,
@@ -30,7 +30,7 @@ pub struct Settings {
     pub max_consecutive_malformed: u32,
 }
 
-#[derive(Drop)]
+#[derive(Clone, Copy)]
 pub enum SettingsAnswer {
     // the rate in kHz
     Accepted(u16),

@@ -40,7 +40,7 @@ pub fn add_discontinuity(pending: Pending, n: u64) -> Pending
 }
 
 // What a drain returns, and the slots after it.
-#[derive(Drop)]
+#[derive(Clone, Copy)]
 pub struct Drain {
     pub slot: Slot,
     pub pending: Pending,

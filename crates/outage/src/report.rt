@@ -13,7 +13,7 @@ use model::receiver::{Pending, Receiver};
 use sequence::SeqEvent;
 use stream::{SAMPLES_PER_DATAGRAM, below_half, restart_missing};
 
-#[derive(Drop)]
+#[derive(Clone, Copy)]
 pub struct Report {
     pub missing: u64,
     pub pending: Pending,

@@ -15,7 +15,7 @@ use outage::window::used;
 use sequence::{SeqEvent, SeqTracker};
 use stream::{F32_PER_DATAGRAM, jump_limit};
 
-#[derive(Drop)]
+#[derive(Clone, Copy)]
 pub struct Judged {
     pub event: SeqEvent,
     pub receiver: Receiver,
@@ -74,7 +74,7 @@ fn accept(r: Receiver, report: Report, now: u64) -> Receiver
 }
 
 // What a datagram is told as, what it misses, and the receiver and the counts after it.
-#[derive(Drop)]
+#[derive(Clone, Copy)]
 pub struct Heard {
     pub event: SeqEvent,
     pub missing: u64,

@@ -60,7 +60,7 @@ pub fn quiet_since(r: Receiver) -> u64
 }
 
 // What quiet comes to.
-#[derive(Drop)]
+#[derive(Clone, Copy)]
 pub enum Quiet {
     // no stall is due
     Short,

@@ -17,7 +17,7 @@ use stream::F32_PER_DATAGRAM;
 use turns::turn::turn_at;
 
 // What became of a list, and the session after it.
-#[derive(Drop)]
+#[derive(Clone, Copy)]
 pub struct Carried {
     pub outcome: Outcome,
     pub session: Session,
@@ -124,7 +124,7 @@ fn lent_samples(samples: &[f32]) -> usize
 }
 
 // What Open answered, what became of the list, and the session after it.
-#[derive(Drop)]
+#[derive(Clone, Copy)]
 pub struct Replayed {
     pub answer: SettingsAnswer,
     pub outcome: Outcome,

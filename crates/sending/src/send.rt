@@ -15,7 +15,7 @@ use wire::packet::{
 };
 
 // What is common, the streams written so far, and where the last packet ended.
-#[derive(Drop)]
+#[derive(Clone, Copy)]
 pub struct Progress {
     pub common: Common,
     pub streams: Streams,

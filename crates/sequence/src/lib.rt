@@ -10,7 +10,7 @@ const MAX_STALE_BEHIND: u32 = 64;
 // So many stale datagrams in a row are a restart.
 const STALE_RUN_RESTART: u32 = 8;
 
-#[derive(Drop)]
+#[derive(Clone, Copy)]
 pub enum SeqEvent {
     InOrder,
     // so many datagrams were lost immediately before this one
@@ -20,19 +20,19 @@ pub enum SeqEvent {
 }
 
 // The number expected next, or that none has come yet.
-#[derive(Drop)]
+#[derive(Clone, Copy)]
 pub enum Expected {
     Nothing,
     Next(u32),
 }
 
-#[derive(Drop)]
+#[derive(Clone, Copy)]
 pub struct SeqTracker {
     pub expected: Expected,
     pub stale_run: u32,
 }
 
-#[derive(Drop)]
+#[derive(Clone, Copy)]
 pub struct Observed {
     pub event: SeqEvent,
     pub tracker: SeqTracker,

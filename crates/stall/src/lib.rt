@@ -7,7 +7,7 @@ ghost use Rattle.stall.specs.Episode.{unarmed, delivered, is_due, reported, take
 
 use double::time::since;
 
-#[derive(Drop)]
+#[derive(Clone, Copy)]
 pub struct StallEpisode {
     // samples came since the last report
     pub delivering: bool,
@@ -15,7 +15,7 @@ pub struct StallEpisode {
     pub pending: bool,
 }
 
-#[derive(Drop)]
+#[derive(Clone, Copy)]
 pub struct Taken {
     pub stalled: bool,
     pub episode: StallEpisode,

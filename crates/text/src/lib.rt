@@ -75,7 +75,7 @@ fn find_blank(s: &[u8]) -> usize
     i
 }
 
-#[derive(Drop)]
+#[derive(Clone, Copy)]
 pub struct Word {
     pub start: usize,
     pub end: usize,
@@ -115,7 +115,7 @@ pub fn place_of(w: &[u8], names: &[u8]) -> usize
     }
 }
 
-#[derive(Drop)]
+#[derive(Clone, Copy)]
 pub enum Spelt {
     Number(u64),
     Nothing,

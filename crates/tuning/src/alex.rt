@@ -114,7 +114,7 @@ const BPF_BITS: [u32; 7] = [
     BPF_6M,
 ];
 
-#[derive(Drop)]
+#[derive(Clone, Copy)]
 pub struct AlexWords {
     pub alex0: u32,
     pub alex1: u32,

@@ -3,7 +3,7 @@ ghost use Rattle.std.specs.Prelude.{◌≡◌};
 ghost use Rattle.tuning.specs.Board.{info_of, board_info};
 
 // Which family of Alex filter words a board takes.
-#[derive(Drop)]
+#[derive(Clone, Copy)]
 pub enum FilterScheme {
     None,
     Classic,
@@ -13,13 +13,13 @@ pub enum FilterScheme {
 }
 
 // Discovery byte 11, or that discovery was skipped.
-#[derive(Drop)]
+#[derive(Clone, Copy)]
 pub enum BoardId {
     Skipped,
     Number(u8),
 }
 
-#[derive(Drop)]
+#[derive(Clone, Copy)]
 pub struct BoardInfo {
     pub id: BoardId,
     // receive packet, byte 4

@@ -8,7 +8,7 @@ const LOWEST_RATE: u32 = 48_000;
 // How often it may be doubled.
 const MOST_DOUBLINGS: u32 = 3;
 
-#[derive(Drop)]
+#[derive(Clone, Copy)]
 pub enum RateAnswer {
     Khz(u16),
     NotEncodable,

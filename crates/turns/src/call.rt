@@ -18,7 +18,7 @@ use sending::send::no_streams;
 use stream::F32_PER_DATAGRAM;
 
 // What a call gave: its answer, the streams that it wrote, and the session after it.
-#[derive(Drop)]
+#[derive(Clone, Copy)]
 pub(crate) struct Replied {
     pub(crate) answer: Code,
     pub(crate) streams: Streams,

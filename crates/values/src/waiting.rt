@@ -7,7 +7,7 @@ use super::reading::number;
 use text::Spelt;
 
 // The first of numbers that follow each other, and how many.
-#[derive(Drop)]
+#[derive(Clone, Copy)]
 pub enum Span {
     Numbers(u64, u64),
     Neither,

@@ -4,7 +4,7 @@ ghost use Rattle.wire.specs.Command.{offset_of, size_of};
 
 use super::packet::{GENERAL_LEN, HIGH_PRIORITY_LEN, RX_SPECIFIC_LEN, TX_SPECIFIC_LEN};
 
-#[derive(Drop)]
+#[derive(Clone, Copy)]
 pub enum Stream {
     General,
     RxSpecific,

@@ -59,7 +59,7 @@ pub const HP_ALEX0: usize = 1432;
 
 pub const HP_STEP_ATTENUATOR_ADC0: usize = 1443;
 
-#[derive(Drop)]
+#[derive(Clone, Copy)]
 pub enum PacketAnswer {
     Written,
     NoRoom,

@@ -9,7 +9,7 @@ pub const ADC0_OVERLOAD: u8 = 0x01;
 
 pub const STATUS_ADC_OVERLOAD: usize = 5;
 
-#[derive(Drop)]
+#[derive(Clone, Copy)]
 pub enum OverloadBits {
     Bits(u8),
     NoBits,
