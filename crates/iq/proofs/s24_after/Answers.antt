@@ -18,4 +18,4 @@ returns c =
     ∙ ap sample_of
     (c.turned.ensures
     ∙ ap turned_of c.get_u32_le.ensures
-    ∙ turned-at a.b.now a.at (λ (i : ℕ). omega (arith, c.shared_slice_known-1.given i)))
+    ∙ turned-at a.b.now a.at (λ (i : ℕ). omega (arith, c.type_inv.b i)))
