@@ -159,7 +159,7 @@ module _ (s : Settings) where
 
   calls-of : (h : Host) (b : Book) (at : h.State) (cs : List Call) → calls_of (number h b at cs) ≡ cs
   calls-of h b at [] = refl
-  calls-of h b at (c ∷ cs) = ap (λ (l : List Call). c ∷ l) (calls-of h _ _ cs)
+  calls-of h b at (c ∷ cs) = ap (λ (l : List Call). c ∷ l) (calls-of h (noted s b (seen h b at c) (sent h b at c).number) (h.step at c).state cs)
 
 -- of any host
 pub numbered : (h : Host) (s : Settings) (now : ℕ) (calls : List Call) → AllOfOctets calls → Numbered h s now calls
