@@ -69,13 +69,7 @@ pub(crate) fn after(
 }
 
 // The account of a session that ends.
-fn put_account(
-    s: Session,
-    a: Account,
-    at: usize,
-    table: &[u64; TABLE],
-    out: &mut Output,
-) -> usize
+fn put_account(s: Session, a: Account, at: usize, table: &[u64; TABLE], out: &mut Output) -> usize
     requires { Standing s table.now a }
 {
     let end = end_of(s);
@@ -99,13 +93,7 @@ fn shown(s: Session, d: Desk, out: &mut Output) -> Desk {
 }
 
 // Of the session as it is before the line in hand: its state, its account where it ends, or what the radio beside it keeps.
-pub(crate) fn told(
-    h: Held,
-    p: Practice,
-    d: Desk,
-    table: &[u64; TABLE],
-    out: &mut Output,
-) -> Desk
+pub(crate) fn told(h: Held, p: Practice, d: Desk, table: &[u64; TABLE], out: &mut Output) -> Desk
     requires { Kept h table.now }
 {
     let asks = d.asks;

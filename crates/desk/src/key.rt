@@ -5,13 +5,7 @@ use tally::rows::{End, gap_row, nth_row};
 use telling::key;
 
 // All of them: the stretches, the sums, the counters.
-pub fn put_rows(
-    out: &mut Output,
-    at: usize,
-    table: &[u64; TABLE],
-    a: Account,
-    e: End,
-) -> usize {
+pub fn put_rows(out: &mut Output, at: usize, table: &[u64; TABLE], a: Account, e: End) -> usize {
     let n = a.stretches;
     if n > STRETCHES {
         return at;

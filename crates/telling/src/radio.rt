@@ -11,13 +11,7 @@ fn on(out: &mut Output, at: usize, b: bool) -> usize {
 }
 
 // The numbers that stand before its run, and those behind it.
-pub fn tell(
-    out: &mut Output,
-    at: usize,
-    before: &[u64; 7],
-    run: bool,
-    behind: &[u64; 6],
-) -> usize {
+pub fn tell(out: &mut Output, at: usize, before: &[u64; 7], run: bool, behind: &[u64; 6]) -> usize {
     let one = filled(
         out,
         at,
