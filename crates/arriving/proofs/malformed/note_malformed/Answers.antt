@@ -1,0 +1,7 @@
+-- `arriving::malformed::note_malformed` meets its contract. Assumes nothing.
+use Rattle.model.specs.Arrival.{with_one_more}
+use Rattle.arriving.proofs.malformed.note_malformed.Goals as goal
+
+pub returns : goal.returns
+unfolding with_one_more
+returns c = simp (c.one_more.ensures, c.record_malformed-counted.ensures)
