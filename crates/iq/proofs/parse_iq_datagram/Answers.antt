@@ -14,15 +14,15 @@ returns-in_default c =
 pub returns-then-out-lt-F32_PER_DATAGRAM : goal.returns-then-out-lt-F32_PER_DATAGRAM
 returns-then-out-lt-F32_PER_DATAGRAM c =
     let a = c.args in
-    parsed-no-room a.buf.now a.out.now c.in-Accepted.seq c.in-Accepted.ensures c.if-out-lt-F32_PER_DATAGRAM.true
+    parsed-no-room a.buf.now a.out.now c.in-Accepted.seq c.in-Accepted.ensures (omega arith)
 
 pub read_samples-requires : goal.read_samples-requires
 read_samples-requires c =
     let n = (right-header c.args.buf.now c.in-Accepted.seq c.in-Accepted.ensures).0 in
-    (omega (arith, n), omega (arith, c.if-out-lt-F32_PER_DATAGRAM.false))
+    (omega (arith, n), omega arith)
 
 pub returns : goal.returns
 returns c =
     let a = c.args in
-    parsed-count a.buf.now a.out.now c.in-Accepted.seq c.in-Accepted.ensures c.read_samples.new.out c.if-out-lt-F32_PER_DATAGRAM.false
+    parsed-count a.buf.now a.out.now c.in-Accepted.seq c.in-Accepted.ensures c.read_samples.new.out (omega arith)
     c.read_samples.ensures
