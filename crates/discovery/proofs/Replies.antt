@@ -1,13 +1,13 @@
 -- What the replies of both protocols share: the tests of a datagram's kind and status; and a told reply leaves no doubt which reply it was. Assumes nothing.
 use Prim.Native.Nat.{ℕ, ◌≤◌, ◌<◌}
-use mathlib.Core.Bool.{Bool, true, false, not, ◌&&◌, and-false, or-false}
+use mathlib.Core.Bool.{Bool, true, false, ◌&&◌, and-false, or-false}
 use mathlib.Core.Path.{◌≡◌, refl, sym, ap, ◌∙◌}
 use mathlib.Core.List.{List, [], ◌∷◌}
 use lib.ListN.{length, get_or, take, drop}
 use lib.Dec.{leb, eqb, leb→le, eqb→eq}
 use lib.Ieee.Fits.{and_l, and_r}
 use native.Mathlib.Omega.{arith}
-use borrow.Author.Tests.{eqb-true, le-leb, lt-leb, ne_eqb, not-true, not-false}
+use borrow.Author.Tests.{eqb-true, le-leb, lt-leb, ne_eqb}
 use Rattle.base.specs.Pick.{pick}
 use Rattle.octets.specs.Number.{be_at}
 use Rattle.base.proofs.Picks.{pick-t, pick-f, pick-either}
@@ -43,13 +43,13 @@ p1-not-p2 b e =
 
 -- t is the code's test of the status
 module _ (octet : ℕ) (t : Bool) (e : t ≡ is_status octet) where
-  pub no-status : (r reply : Reply) → not t ≡ true → r ≡ no_reply → r ≡ checked octet reply
+  pub no-status : (r reply : Reply) → t ≡ false → r ≡ no_reply → r ≡ checked octet reply
   unfolding checked
-  no-status r reply h p = p ∙ sym (pick-f _ _ _ (sym e ∙ not-true t h))
+  no-status r reply h p = p ∙ sym (pick-f _ _ _ (sym e ∙ h))
 
-  pub a-status : (reply : Reply) → not t ≡ false → reply ≡ checked octet reply
+  pub a-status : (reply : Reply) → t ≡ true → reply ≡ checked octet reply
   unfolding checked
-  a-status reply h = sym (pick-t _ _ _ (sym e ∙ not-false t h))
+  a-status reply h = sym (pick-t _ _ _ (sym e ∙ h))
 
 -- a status that is not busy is idle
 pub idle : (octet : ℕ) → (octet ≡ 3 → ⊥) → is_status octet ≡ true → 2 ≡ octet
