@@ -44,13 +44,13 @@ pub const STATUS_IDLE: u8 = 0x02;
 
 pub const STATUS_BUSY: u8 = 0x03;
 
-#[derive(Drop)]
+#[derive(Clone, Copy)]
 pub enum DiscoveryStatus {
     Available,
     InUse,
 }
 
-#[derive(Drop)]
+#[derive(Clone, Copy)]
 pub enum ReplyAnswer {
     Protocol1 {
         status: DiscoveryStatus,
@@ -67,7 +67,7 @@ pub enum ReplyAnswer {
 }
 
 // What a radio replied, and its hardware address: six zeros where there is no reply.
-#[derive(Drop)]
+#[derive(Clone, Copy)]
 pub struct DiscoveryReply {
     pub answer: ReplyAnswer,
     pub mac: [u8; 6],

@@ -25,7 +25,7 @@ pub const IQ_SAMPLES: usize = 14;
 
 pub const IQ_PAYLOAD: usize = 16;
 
-#[derive(Drop)]
+#[derive(Clone, Copy)]
 pub enum IqAnswer {
     Accepted(u32),
     Length(usize),

@@ -1,5 +1,4 @@
 -- The answer to a command packet, in numbers, leaves no doubt which it was. Assumes nothing.
-use Prim.Native.Nat.{ℕ}
 use mathlib.Core.Path.{◌≡◌, refl}
 use mathlib.Core.Bool.{cond}
 use lib.Dec.{eqb}

@@ -1,17 +1,15 @@
 -- What the host's writers write, the radio reads back: each of the four packets is accepted, and its count and fields are kept. Assumes
 -- nothing.
-use Prim.Native.Nat.{ℕ, ◌^◌, ◌≤◌, ◌<◌, min}
+use Prim.Native.Nat.{ℕ, ◌^◌, ◌<◌, min}
 use mathlib.Core.Path.{◌≡◌, refl, sym, ap, ◌∙◌, subst}
-use mathlib.Core.Bool.{Bool, true, false, ◌&&◌, cond}
-use mathlib.Core.List.{List, [], ◌∷◌}
+use mathlib.Core.Bool.{Bool, true, false, cond}
+use mathlib.Core.List.{List, []}
 use native.Mathlib.Omega.{arith}
 use lib.Dec.{T, leb, eqb}
 use lib.Ieee.Bits.{is_true}
-use lib.ListN.{length}
 use borrow.Author.Tests.{eq-eqb, le-leb}
 use Rattle.base.specs.Told.{gives}
-use Rattle.octets.specs.Number.{be_at}
-use Rattle.octets.specs.Packet.{Field, field, packet}
+use Rattle.octets.specs.Packet.{Field, packet}
 use Rattle.octets.specs.Order.{same}
 use Rattle.octets.proofs.Orders.{same_refl}
 use Rattle.tuning.specs.Rate.{is_rate_khz}
@@ -23,7 +21,7 @@ use Rattle.wire.specs.declared.command.Stream.TheVariants.{General, RxSpecific, 
 use Rattle.wire.proofs.ReadBack.{general-length, general-reads, rx-length, rx-reads, tx-length, tx-reads, high-length, high-reads}
 use Rattle.radio.specs.Answer.{outcome}
 use Rattle.radio.specs.State.{with_general, with_rx_specific, with_tx_specific, with_high_priority}
-use Rattle.radio.specs.Command.{named, plain, valued, command_read, general_in, rx_specific_in, tx_specific_in, high_priority_in}
+use Rattle.radio.specs.Command.{named, plain, valued, command_read, high_priority_in}
 use Rattle.radio.specs.declared.state.HighPriority as state
 use Rattle.radio.specs.declared.state.Radio.{Radio}
 use Rattle.radio.proofs.Outcomes.{of_right}

@@ -1,7 +1,7 @@
 -- The packets of a call, read one after another: which stream an offset is, and one packet more. Assumes nothing.
 use Prim.Native.Nat.{ℕ, zero, suc, ◌+◌, ◌-◌, ◌≤◌, ◌<◌, min}
 use mathlib.Core.Path.{◌≡◌, refl, sym, ap, ◌∙◌}
-use mathlib.Core.List.{List, [], ◌∷◌}
+use mathlib.Core.List.{List, ◌∷◌}
 use mathlib.Core.Option.{Option, some, none}
 use lib.ListN.{length, get_or, take, drop, length-drop, drop_of_length-le}
 use lib.Seq.{drop-cons, drop-drop, take_all}
@@ -14,7 +14,7 @@ use Rattle.wire.specs.Command.{size_of}
 use Rattle.wire.specs.declared.command.Stream.{Stream}
 use Rattle.radio.specs.Answer.{Outcome}
 use Rattle.radio.specs.Command.{command_read}
-use Rattle.radio.specs.Listen.{stream_at, where_known, Command, cut, received, after, is_accepted, accepted}
+use Rattle.radio.specs.Listen.{stream_at, where_known, cut, received, after, is_accepted, accepted}
 use Rattle.radio.specs.declared.listen.Received.{Received}
 use Rattle.radio.specs.declared.state.Radio.{Radio}
 

@@ -1,22 +1,21 @@
 -- The octets of a command packet that are fixed: the code's tests of them are the test whether the packet is zeros with its named
 -- fields stored in them. Assumes nothing.
-use Prim.Native.Nat.{ℕ, ◌%◌, ◌^◌, ◌<◌}
-use mathlib.Core.Path.{◌≡◌, refl, sym, ap, ◌∙◌, subst}
-use mathlib.Core.Bool.{Bool, true, false, not, ◌&&◌}
+use Prim.Native.Nat.{ℕ, ◌%◌, ◌^◌}
+use mathlib.Core.Path.{◌≡◌, refl, sym, ◌∙◌, subst}
+use mathlib.Core.Bool.{Bool, true, false, ◌&&◌}
 use mathlib.Core.List.{List}
 use lib.ListN.{length, get_or}
 use lib.Dec.{T, eqb, eqb→eq}
 use lib.Ieee.Bits.{is_true}
 use lib.Ieee.Fits.{and_l, and_r}
-use native.Mathlib.Nat.{mod-eq_of_lt}
 use native.Mathlib.Omega.{arith}
-use borrow.Author.Tests.{eq-eqb, not-true, not-false}
+use borrow.Author.Tests.{eq-eqb}
 use Rattle.base.specs.Each.{Each}
 use Rattle.octets.specs.Number.{be_at}
-use Rattle.octets.specs.Packet.{Field, packet, Zero, within, apart}
+use Rattle.octets.specs.Packet.{packet, Zero, within, apart}
 use Rattle.octets.specs.Order.{Octets}
-use Rattle.octets.proofs.Numbers.{be_at-one, be_at-lt}
-use Rattle.octets.proofs.Packets.{read_back, each_both}
+use Rattle.octets.proofs.Numbers.{be_at-one}
+use Rattle.octets.proofs.Packets.{read_back}
 use Rattle.octets.proofs.Shapes.{Gaps, gapped, packet-is, gaps-packet, same_by}
 use Rattle.wire.specs.Command.{size_of}
 use Rattle.wire.specs.declared.command.Stream.{Stream}
@@ -156,8 +155,8 @@ module _ (p : List ℕ) (o : Octets p) where
 pub joined : {r a b x y : Bool} → r ≡ (a && b) → a ≡ x → b ≡ y → r ≡ (x && y)
 joined p q s = rw (← q, ← s) p
 
-pub and_no : (a b : Bool) → not a ≡ true → false ≡ (a && b)
-and_no a b h = rw (not-true a h)
+pub and_no : (a b : Bool) → a ≡ false → false ≡ (a && b)
+and_no a b h = rw h
 
-pub and_yes : (a b : Bool) → not a ≡ false → b ≡ (a && b)
-and_yes a b h = rw (not-false a h)
+pub and_yes : (a b : Bool) → a ≡ true → b ≡ (a && b)
+and_yes a b h = rw h

@@ -1,7 +1,7 @@
 // What the radio answers. 02's number of each case: specs/Answer.
 use super::state::Radio;
 
-#[derive(Drop)]
+#[derive(Clone, Copy)]
 pub enum CommandAnswer {
     Accepted,
     // not as long as the stream's packets are
@@ -11,7 +11,7 @@ pub enum CommandAnswer {
 }
 
 // The answer to a command packet, and the radio after it.
-#[derive(Drop)]
+#[derive(Clone, Copy)]
 pub struct Heard {
     pub answer: CommandAnswer,
     pub radio: Radio,

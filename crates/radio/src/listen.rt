@@ -9,14 +9,14 @@ use super::state::Radio;
 use wire::command::Stream;
 
 // The radio after the packets, and how many of them it accepted.
-#[derive(Drop)]
+#[derive(Clone, Copy)]
 pub struct Received {
     pub radio: Radio,
     pub accepted: usize,
 }
 
 // The stream that goes to the port plus this offset, or that there is none.
-#[derive(Drop)]
+#[derive(Clone, Copy)]
 pub enum Destination {
     Of(Stream),
     Nowhere,

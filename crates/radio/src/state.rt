@@ -3,25 +3,25 @@
 ghost use Rattle.std.specs.Prelude.{◌≡◌};
 ghost use Rattle.radio.specs.State.{at_first};
 
-#[derive(Drop)]
+#[derive(Clone, Copy)]
 pub struct General {
     pub seq: u32,
     pub filter_enable: u8,
 }
 
-#[derive(Drop)]
+#[derive(Clone, Copy)]
 pub struct RxSpecific {
     pub seq: u32,
     pub adc_count: u8,
     pub rate_khz: u16,
 }
 
-#[derive(Drop)]
+#[derive(Clone, Copy)]
 pub struct TxSpecific {
     pub seq: u32,
 }
 
-#[derive(Drop)]
+#[derive(Clone, Copy)]
 pub struct HighPriority {
     pub seq: u32,
     pub run: bool,
@@ -33,7 +33,7 @@ pub struct HighPriority {
     pub attenuation: u8,
 }
 
-#[derive(Drop)]
+#[derive(Clone, Copy)]
 pub struct Radio {
     pub general: General,
     pub rx_specific: RxSpecific,

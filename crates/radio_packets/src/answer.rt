@@ -1,6 +1,6 @@
 // What a writer answers whose values may be refused. The number of each case: specs/Answer.
 
-#[derive(Drop)]
+#[derive(Clone, Copy)]
 pub enum WriteAnswer {
     Written,
     // the values are none that such a packet can carry
