@@ -1,7 +1,18 @@
-// The program's arguments: `[--gaps] [--numbered] [--status] [FILE]`. The script `waluntig` is what people run; it takes the
-// status from descriptor 3, since a program of this language has none of its own.
+// The program's arguments: `[--gaps] [--numbered] [--status] [FILE]`. The script `waluntig` is what people run; with `--status` the
+// program ends with its status, and else with 0.
+use console::fault::{fail, told};
 use desk::desk::Flags;
-use libc::{PATH_MAX, STDERR_FILENO};
+use std::env::FillError;
+use std::io::{Error, ErrorKind};
+use std::rt::Env;
+
+// Room for an argument: the longest name that the system opens has an octet less.
+pub(crate) const NAME: usize = 4096;
+
+// The system's numbers of two errors.
+const ENAMETOOLONG: i32 = 36;
+
+const EINVAL: i32 = 22;
 
 #[derive(Clone, Copy)]
 pub(crate) struct Arguments {
@@ -25,14 +36,32 @@ fn flag(word: &[u8]) -> u8 {
     0
 }
 
-fn flag_at(i: usize) -> u8 {
-    let mut room = io::buffer();
-    let n = os::arg(i, &mut room);
-    flag(&room[..n])
+// One that is longer than the room is no flag.
+fn flag_at(rt: &HostRuntime, i: usize) -> u8 {
+    let mut room = [0u8; NAME];
+    match rt.arg(i, &mut room) {
+        Ok(n) => flag(&room[..n]),
+        Err(_) => 0,
+    }
 }
 
-pub(crate) fn read() -> Arguments {
-    let end = os::arg_count();
+fn is_there(rt: &HostRuntime, i: usize) -> bool {
+    let mut room = [0u8; NAME];
+    !matches!(rt.arg(i, &mut room), Err(FillError::NotPresent))
+}
+
+// How many there are, the program's own name among them.
+fn count(rt: &HostRuntime) -> usize {
+    for i in 0..usize::MAX {
+        if !is_there(rt, i) {
+            return i;
+        }
+    }
+    usize::MAX
+}
+
+pub(crate) fn read(rt: &HostRuntime) -> Arguments {
+    let end = count(rt);
     let mut flags = Flags {
         gaps: false,
         numbered: false,
@@ -40,7 +69,7 @@ pub(crate) fn read() -> Arguments {
     };
     let mut i = 1;
     while i < end {
-        match flag_at(i) {
+        match flag_at(rt, i) {
             1 => flags.gaps = true,
             2 => flags.numbered = true,
             3 => flags.status = true,
@@ -62,29 +91,43 @@ pub(crate) struct FileName {
     pub(crate) is_name: bool,
 }
 
-// The file's name goes to the front of the lent room. One that is too long, or empty, is told as what it is.
-pub(crate) fn file_name(i: usize, room: &mut [u8; PATH_MAX]) -> FileName {
-    let n = os::arg(i, room);
-    let error = os::errno();
-    if error != 0 {
-        os::fail(b"the file's name");
-        return FileName {
-            length: 0,
-            is_name: false,
-        };
-    }
-    if n == 0 {
-        io::write_all(STDERR_FILENO, b"the file's name is empty\n");
-    }
+fn no_name(rt: &HostRuntime, error: i32) -> FileName {
+    fail(
+        &mut rt.stderr(),
+        b"the file's name",
+        Error::from_raw_os_error(error),
+    );
     FileName {
-        length: n,
-        is_name: n > 0,
+        length: 0,
+        is_name: false,
     }
 }
 
-pub(crate) fn one_list_at_a_time() {
-    io::write_all(
-        STDERR_FILENO,
+// The file's name goes to the front of the lent room. One that is too long, or empty, is told as what it is.
+pub(crate) fn file_name(rt: &HostRuntime, i: usize, room: &mut [u8; NAME]) -> FileName {
+    match rt.arg(i, room) {
+        Ok(n) => {
+            if n == 0 {
+                told(&mut rt.stderr(), b"the file's name is empty\n");
+            }
+            FileName {
+                length: n,
+                is_name: n > 0,
+            }
+        }
+        Err(FillError::TooLong) => no_name(rt, ENAMETOOLONG),
+        Err(FillError::NotPresent) => no_name(rt, EINVAL),
+    }
+}
+
+// Why a file whose name is no text is not opened.
+pub(crate) fn not_text() -> Error {
+    Error::new(ErrorKind::InvalidInput, "The file's name is not UTF-8")
+}
+
+pub(crate) fn one_list_at_a_time(rt: &HostRuntime) {
+    told(
+        &mut rt.stderr(),
         b"calls: one list at a time, after the flags\n",
     );
 }

@@ -4,11 +4,12 @@ ghost use Rattle.console.specs.Input.{Within};
 use super::practice::{listened, untold};
 use super::sessions::{after, became_of, told};
 use console::input::{Input, ROOM as INPUT, fill, is_cut, next, nothing};
-use console::output::{Output, ROOM, finish};
+use console::output::{Output, ROOM, finish, gathered, tell_fault};
 use desk::desk::{Desk, Flags, empty, flushed};
 use desk::line::read;
 use desk::reply;
 use holding::unused;
+use std::io::{Error, Read};
 use std::num::wrapping_add_u64;
 use stream::F32_PER_DATAGRAM;
 use tally::account::TABLE;
@@ -16,18 +17,18 @@ use telling::error;
 
 // Whether the list goes on.
 fn goes_on(d: Desk, at: Input) -> bool {
-    !d.is_over && !at.failed && d.out <= ROOM
+    !d.is_over && at.failed.is_none() && d.out <= ROOM
 }
 
 // Nothing is read where the output failed.
-fn read_on(fd: i32, d: Desk, at: Input, text: &mut [u8; INPUT]) -> Input
+fn read_on<R: Read>(from: &mut R, d: Desk, at: Input, text: &mut [u8; INPUT]) -> Input
     requires { Within at }
     ensures { Within result }
 {
     if d.out > ROOM {
         return at;
     }
-    fill(fd, text, at)
+    fill(from, text, at)
 }
 
 // The list can't be read on from this line.
@@ -38,9 +39,9 @@ fn unread(out: &mut Output, at: usize, line: u64) -> u8 {
 }
 
 // What is still to be written goes out. The status: 2 where input or output failed, else the desk's.
-fn end(d: Desk, failed: bool, name: &[u8], out: &mut Output) -> u8 {
-    if failed {
-        os::fail(name);
+fn end(d: Desk, failed: Option<Error>, name: &[u8], out: &mut Output) -> u8 {
+    if let Some(error) = failed {
+        tell_fault(out, name, error);
         return unread(out, d.out, wrapping_add_u64(d.line, 1));
     }
     if finish(out, d.out) {
@@ -50,8 +51,8 @@ fn end(d: Desk, failed: bool, name: &[u8], out: &mut Output) -> u8 {
 }
 
 // A proved loop has to end, and nothing says that a file does: it counts its turns down, from a number that no run uses up.
-fn run_lines(
-    fd: i32,
+fn run_lines<R: Read>(
+    from: &mut R,
     name: &[u8],
     flags: Flags,
     text: &mut [u8; INPUT],
@@ -75,7 +76,7 @@ fn run_lines(
         at = next(text, at);
         if is_cut(at) {
             d = flushed(d, out);
-            at = read_on(fd, d, at, text);
+            at = read_on(from, d, at, text);
             continue;
         }
         d = read(d, at, text, call, octets, numbers, out);
@@ -91,8 +92,8 @@ fn run_lines(
     end(d, at.failed, name, out)
 }
 
-// Runs the list that is read from fd, whose name is told where it can't be read. The status of the program.
-pub(crate) fn run(fd: i32, name: &[u8], flags: Flags) -> u8 {
+// Runs the list that is read, whose name is told where it can't be read. The status of the program.
+pub(crate) fn run<R: Read>(rt: &HostRuntime, from: &mut R, name: &[u8], flags: Flags) -> u8 {
     let mut text = [0u8; INPUT];
     let mut samples = [0.0f32; F32_PER_DATAGRAM];
     let mut call = [0u64; 8];
@@ -102,9 +103,9 @@ pub(crate) fn run(fd: i32, name: &[u8], flags: Flags) -> u8 {
     let mut places = [0.0f32; 1024];
     let mut answers = [0u64; 8];
     let mut table = [0u64; TABLE];
-    let mut out = [0u8; ROOM];
+    let mut out = gathered(rt.stdout(), rt.stderr());
     run_lines(
-        fd,
+        from,
         name,
         flags,
         &mut text,
@@ -121,7 +122,7 @@ pub(crate) fn run(fd: i32, name: &[u8], flags: Flags) -> u8 {
 }
 
 // A list that there is no file of: nothing of it is run.
-pub(crate) fn no_list() -> u8 {
-    let mut out = [0u8; ROOM];
+pub(crate) fn no_list(rt: &HostRuntime) -> u8 {
+    let mut out = gathered(rt.stdout(), rt.stderr());
     unread(&mut out, 0, 1)
 }

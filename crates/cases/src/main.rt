@@ -7,10 +7,10 @@ mod run;
 mod tally;
 
 use console::input::ROOM as INPUT;
-use console::output::ROOM;
+use console::output::gathered;
 
-fn main() {
+fn main(rt: HostRuntime) {
     let mut room = [0u8; INPUT];
-    let mut out = [0u8; ROOM];
-    run::run(&mut room, &mut out);
+    let mut out = gathered(rt.stdout(), rt.stderr());
+    run::run(&mut rt.stdin(), &mut room, &mut out);
 }

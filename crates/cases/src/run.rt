@@ -5,8 +5,8 @@ use super::one::one_line;
 use super::tally::{Tally, empty};
 use casebook::report::{too_long, total, unread};
 use console::input::{Input, ROOM as INPUT, fill, is_cut, next, nothing};
-use console::output::{Output, ROOM, finish, flush};
-use libc::STDIN_FILENO;
+use console::output::{Output, ROOM, finish, flush, tell_fault};
+use std::io::{Error, Read};
 use std::num::wrapping_add_u64;
 
 // A line longer than the room is a case not as expected and the last that is read: what follows of it is no line of its own, and
@@ -25,26 +25,26 @@ fn turn(room: &[u8; INPUT], at: Input, t: Tally, out: &mut Output) -> Tally
 
 // Whether there may be a case more.
 fn goes_on(t: Tally, at: Input) -> bool {
-    !t.is_over && !at.failed && t.out <= ROOM
+    !t.is_over && at.failed.is_none() && t.out <= ROOM
 }
 
 // Nothing is read where the output failed.
-fn read_on(room: &mut [u8; INPUT], at: Input, out: usize) -> Input
+fn read_on<R: Read>(from: &mut R, room: &mut [u8; INPUT], at: Input, out: usize) -> Input
     requires { Within at }
     ensures { Within result }
 {
     if out > ROOM {
         return at;
     }
-    fill(STDIN_FILENO, room, at)
+    fill(from, room, at)
 }
 
 // An input that failed is told, and counts as a case not as expected: a cut input would pass with the cases that are left.
-fn end(t: Tally, failed: bool, out: &mut Output) -> Tally {
-    if !failed {
+fn end(t: Tally, failed: Option<Error>, out: &mut Output) -> Tally {
+    let Some(error) = failed else {
         return t;
-    }
-    os::fail(b"standard input");
+    };
+    tell_fault(out, b"standard input", error);
     t.next_case(false, unread(out, t.out, wrapping_add_u64(t.line, 1)))
 }
 
@@ -54,7 +54,7 @@ fn told(t: Tally, out: &mut Output) {
 }
 
 // To the input's end. A proved loop has to end: it counts its turns down, from a number that no run uses up.
-pub(crate) fn run(room: &mut [u8; INPUT], out: &mut Output) {
+pub(crate) fn run<R: Read>(from: &mut R, room: &mut [u8; INPUT], out: &mut Output) {
     let mut t = empty();
     let mut at = nothing();
     let mut turns = u64::MAX;
@@ -63,7 +63,7 @@ pub(crate) fn run(room: &mut [u8; INPUT], out: &mut Output) {
         at = next(room, at);
         if is_cut(at) {
             t = t.written(flush(out, t.out));
-            at = read_on(room, at, t.out);
+            at = read_on(from, room, at, t.out);
             continue;
         }
         if at.is_line {

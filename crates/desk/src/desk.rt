@@ -28,7 +28,7 @@ pub struct Flags {
     pub gaps: bool,
     // the number of its line before each answer
     pub numbered: bool,
-    // the status to descriptor 3
+    // the program ends with the status, and not with 0
     pub status: bool,
 }
 

@@ -8,6 +8,6 @@ mod run;
 mod sessions;
 mod tell;
 
-fn main() {
-    run::run();
+fn main(rt: HostRuntime) {
+    run::run(&rt);
 }

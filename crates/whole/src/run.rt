@@ -8,10 +8,10 @@ use super::sessions;
 use super::tell::tell;
 use batch::list::{CALLS, NUMBERS, OCTETS, PACKETS, PLACES, WORDS, none};
 use console::input::{Input, ROOM as INPUT, fill, is_cut, next, nothing};
-use console::output::{Output, ROOM, finish};
-use libc::STDIN_FILENO;
+use console::output::{Output, ROOM, finish, gathered, tell_fault};
 use lines::{Opening, read_open};
 use opening::settings::{refusal, validate_protocol2};
+use std::io::{Error, Read};
 use std::num::wrapping_add_u64;
 use telling::error;
 
@@ -90,33 +90,34 @@ fn ended(
 
 // Whether the list goes on.
 fn goes_on(d: Desk, at: Input) -> bool {
-    !d.is_over && !at.failed && d.out <= ROOM
+    !d.is_over && at.failed.is_none() && d.out <= ROOM
 }
 
 // Nothing is read where the output failed.
-fn read_on(d: Desk, at: Input, text: &mut [u8; INPUT]) -> Input
+fn read_on<R: Read>(from: &mut R, d: Desk, at: Input, text: &mut [u8; INPUT]) -> Input
     requires { Within at }
     ensures { Within result }
 {
     if d.out > ROOM {
         return at;
     }
-    fill(STDIN_FILENO, text, at)
+    fill(from, text, at)
 }
 
 // What is still to be written goes out. An input that failed is no end of the list: that is told, and its session is not run.
-fn end(d: Desk, failed: bool, out: &mut Output) {
-    if !failed {
+fn end(d: Desk, failed: Option<Error>, out: &mut Output) {
+    let Some(error) = failed else {
         finish(out, d.out);
         return;
-    }
-    os::fail(b"standard input");
+    };
+    tell_fault(out, b"standard input", error);
     let last = error::unread(out, d.out, wrapping_add_u64(d.line, 1));
     finish(out, last);
 }
 
 // A proved loop has to end, and nothing says that an input does: it counts its turns down, from a number that no run uses up.
-fn run_lines(
+fn run_lines<R: Read>(
+    from: &mut R,
     text: &mut [u8; INPUT],
     calls: &mut [u64; WORDS],
     octets: &mut [u8; OCTETS],
@@ -132,7 +133,7 @@ fn run_lines(
         at = next(text, at);
         if is_cut(at) {
             d = flushed(d, out);
-            at = read_on(d, at, text);
+            at = read_on(from, d, at, text);
             continue;
         }
         d = read(d, at, text, calls, octets, numbers, out);
@@ -146,11 +147,18 @@ fn run_lines(
 }
 
 // Runs the list of standard input.
-pub(crate) fn run() {
+pub(crate) fn run(rt: &HostRuntime) {
     let mut text = [0u8; INPUT];
     let mut calls = [0u64; WORDS];
     let mut octets = [0u8; OCTETS];
     let mut numbers = [0u32; NUMBERS];
-    let mut out = [0u8; ROOM];
-    run_lines(&mut text, &mut calls, &mut octets, &mut numbers, &mut out)
+    let mut out = gathered(rt.stdout(), rt.stderr());
+    run_lines(
+        &mut rt.stdin(),
+        &mut text,
+        &mut calls,
+        &mut octets,
+        &mut numbers,
+        &mut out,
+    )
 }
