@@ -1,14 +1,14 @@
 -- What the radio writes, the host's parsers read back. Assumes nothing.
-use Prim.Native.Nat.{ℕ, zero, suc, ◌+◌, ◌-◌, ◌*◌, ◌%◌, ◌^◌, ◌≤◌, ◌<◌}
+use Prim.Native.Nat.{ℕ, zero, suc, ◌+◌, ◌-◌, ◌*◌, ◌^◌, ◌≤◌, ◌<◌}
 use mathlib.Core.Path.{◌≡◌, refl, sym, ap, ◌∙◌, subst}
 use mathlib.Core.Bool.{Bool, true, false, ◌&&◌, and-false}
 use mathlib.Core.Logic.{◌⊎◌, inl, inr, ⊎_elim}
 use mathlib.Core.List.{List, [], ◌∷◌, ◌++◌, map}
-use lib.ListN.{length, get_or, take, drop, length-append, length-map, get_or-map}
+use lib.ListN.{length, get_or, take, drop, length-map, get_or-map}
 use lib.Seq.{take_all, take_at, drop_at, length-take-le}
 use lib.Dec.{T, leb, eqb}
 use lib.IntN.{ℤ, pos, negsuc, nat_abs}
-use lib.Ieee.{Float, binary32, round}
+use lib.Ieee.{Float}
 use lib.Ieee.Exact.{HasValue}
 use lib.Ieee.Bits.{is_true}
 use lib.Ieee.Fits.{and_l, and_r}
@@ -20,7 +20,6 @@ use Rattle.base.specs.Told.{gives}
 use Rattle.octets.specs.Number.{be, be_at}
 use Rattle.octets.specs.Packet.{Field, packet, outside}
 use Rattle.octets.specs.Written.{written}
-use Rattle.octets.specs.Table.{tab}
 use Rattle.octets.proofs.Numbers.{length-be, be_at-one, be_at-be, be_at-front, be_at-behind}
 use Rattle.octets.proofs.Packets.{length-packet, read-exact, unnamed}
 use Rattle.octets.proofs.Writes.{length-written, get_or-written-out}

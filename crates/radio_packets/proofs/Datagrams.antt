@@ -1,8 +1,8 @@
 -- An I/Q datagram as it is written: its header, then three octets a number. Assumes nothing.
-use Prim.Native.Nat.{ℕ, suc, ◌+◌, ◌*◌, ◌≤◌, ◌<◌}
+use Prim.Native.Nat.{ℕ, ◌+◌, ◌*◌, ◌≤◌, ◌<◌}
 use mathlib.Core.Path.{◌≡◌, refl, sym, ap, ◌∙◌}
 use mathlib.Core.List.{List, [], ◌∷◌, ◌++◌, append_assoc, append-nil}
-use lib.ListN.{length, get_or, take, drop, length-append}
+use lib.ListN.{length, get_or, take, length-append}
 use lib.Seq.{take-suc, length-take-le}
 use lib.IntN.{ℤ}
 use native.Mathlib.Nat.{zero-add}
@@ -13,7 +13,7 @@ use Rattle.octets.specs.Packet.{packet}
 use Rattle.octets.specs.Written.{written}
 use Rattle.octets.proofs.Numbers.{length-be}
 use Rattle.octets.proofs.Packets.{length-packet}
-use Rattle.octets.proofs.Writes.{written_none, written_then, length-written}
+use Rattle.octets.proofs.Writes.{written_none, written_then}
 use Rattle.radio_packets.specs.Iq.{bits_of, octets_of, iq_fields, iq_datagram}
 
 pub length-octets : (xs : List ℤ) → length (octets_of xs) ≡ 3 * length xs

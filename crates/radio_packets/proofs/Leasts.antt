@@ -1,27 +1,26 @@
 -- What the radio writes is the least that the host reads so: at every place it has the octet that the reading fixes, or 0. Assumes
 -- nothing.
 use Prim.Native.Nat.{ℕ, ◌+◌, ◌-◌, ◌*◌, ◌/◌, ◌%◌, ◌^◌, ◌≤◌, ◌<◌}
-use mathlib.Core.Path.{◌≡◌, refl, sym, ap, ◌∙◌, subst}
+use mathlib.Core.Path.{◌≡◌, sym, ap, ◌∙◌, subst}
 use mathlib.Core.Bool.{Bool, true, false}
 use mathlib.Core.Logic.{◌⊎◌, inl, inr}
-use mathlib.Core.List.{List, [], ◌∷◌, ◌++◌}
+use mathlib.Core.List.{List, [], ◌∷◌}
 use lib.ListN.{length, get_or, take, drop, get_or-append}
 use lib.Seq.{get_or-take, get_or-drop}
-use lib.Dec.{T, eqb}
+use lib.Dec.{T}
 use lib.IntN.{ℤ}
 use lib.Ieee.{Float}
 use native.Mathlib.Nat.{le_of_eq}
 use native.Mathlib.Omega.{arith}
 use borrow.Author.Tests.{eqb-true}
-use Rattle.base.specs.Told.{gives}
 use Rattle.octets.specs.Number.{be, be_at}
 use Rattle.octets.specs.Packet.{Field, packet, outside}
-use Rattle.octets.specs.Order.{Octets, at_most}
+use Rattle.octets.specs.Order.{Octets}
 use Rattle.octets.proofs.Numbers.{be-octet, be_at-lt}
 use Rattle.octets.proofs.Orders.{pointwise}
 use Rattle.octets.proofs.Shapes.{below_or, octets-packet, octets-append, same-octets, unnamed-run}
 use Rattle.octets.proofs.Tables.{get_or-tab}
-use Rattle.iq.specs.Iq.{sample_of, samples_of, header_told}
+use Rattle.iq.specs.Iq.{sample_of, samples_of}
 use Rattle.iq.proofs.Headers.{right-header}
 use Rattle.iq.proofs.Samples.{sample-once}
 use Rattle.wire.specs.Status.{overloaded}

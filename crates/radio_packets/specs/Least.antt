@@ -1,7 +1,6 @@
 -- What the radio writes is the least, octet by octet from the first, of all packets of its length that the host reads as the same.
 -- Definitions only.
-use Rattle.std.specs.Prelude.{ℕ, ◌%◌, ◌≡◌, List, length, get_or, T}
-use Rattle.base.specs.Told.{Told}
+use Rattle.std.specs.Prelude.{ℕ, ◌≡◌, List, length, get_or, T}
 use Rattle.octets.specs.Order.{Octets, at_most}
 use Rattle.iq.specs.Iq.{header_told, samples_of}
 use Rattle.wire.specs.Status.{overloaded}

@@ -6,7 +6,6 @@ use Rattle.discovery.specs.Reply.{status_number}
 use Rattle.discovery.specs.declared.DiscoveryStatus.{DiscoveryStatus}
 use Rattle.discovery.specs.declared.ReplyAnswer.{ReplyAnswer}
 use Rattle.discovery.specs.declared.ReplyAnswer.TheVariants.{Protocol1, Protocol2, NoReply}
-use Rattle.discovery.specs.declared.DiscoveryReply.{DiscoveryReply}
 
 -- only a reply of Protocol 2 is written
 abbrev pub is_reply : ReplyAnswer → Bool
