@@ -4,17 +4,13 @@ use mathlib.Core.List.{List, ◌∷◌}
 use Prim.Native.Nat.{ℕ, ◌+◌, ◌≤◌, ◌<◌}
 use native.Mathlib.Omega.{arith}
 use borrow.Author.Tests.{lt-ltb, le-ltb, le-leb, lt-leb, eq-eqb, ne_eqb}
-use lib.Dec.{eqb}
 use lib.ListN.{length, drop, get_or}
-use Rattle.base.specs.Pick.{pick}
 use Rattle.base.proofs.Picks.{pick-t, pick-f}
 use Rattle.text.specs.Name.{place}
 use Rattle.text.specs.Split.{words, part, WordAt}
 use Rattle.text.proofs.Splits.{no_word, one_word}
 use Rattle.lines.specs.declared.Expected.{Expected}
-use Rattle.lines.specs.declared.Expected.TheVariants as Expected
 use Rattle.lines.specs.declared.Read.{Read}
-use Rattle.lines.specs.declared.Read.TheVariants as Read
 use Rattle.lines.specs.declared.option.Took.{Took}
 use Rattle.lines.specs.declared.option.Took.TheVariants.{Taken, Unknown, Unreadable}
 use Rattle.lines.specs.Key.{buffer_key, key_count, unsaid}

@@ -6,9 +6,7 @@ use Rattle.octets.specs.Written.{written}
 use Rattle.text.specs.Name.{place}
 use Rattle.text.specs.Split.{words}
 use Rattle.lines.specs.declared.Expected.{Expected}
-use Rattle.lines.specs.declared.Expected.TheVariants as Expected
 use Rattle.lines.specs.declared.Read.{Read}
-use Rattle.lines.specs.declared.Read.TheVariants as Read
 use Rattle.lines.specs.declared.option.Took.{Took}
 use Rattle.lines.specs.declared.option.Took.TheVariants.{Taken, Unknown, Unreadable}
 use Rattle.lines.specs.Key.{buffer_key, waiting_key, length_key, bits_key, samples_key, words_at, first_word, second_word, third_word, fourth_word, keys_at, unsaid, most_octets, most_numbers}

@@ -11,7 +11,6 @@ use Rattle.model.specs.declared.settings.Settings.{Settings}
 use Rattle.model.specs.declared.settings.AttenuationChoice.{AttenuationChoice}
 use Rattle.model.specs.declared.settings.AttenuationChoice.TheVariants.{Off, On, Unsaid}
 use Rattle.lines.specs.declared.Expected.{Expected}
-use Rattle.lines.specs.declared.Expected.TheVariants as Expected
 use Rattle.lines.specs.declared.Read.TheVariants as Read
 use Rattle.lines.specs.declared.Opening.{Opening}
 use Rattle.lines.specs.declared.option.Took.{Took}

@@ -1,0 +1,22 @@
+-- `lines::call::address_of`: the sender's address. Assumes nothing.
+use mathlib.Core.Path.{sym, ◌∙◌}
+use borrow.Author.Tests.{eq-eqb, ne_eqb}
+use Rattle.base.proofs.Picks.{pick-t, pick-f}
+use Rattle.lines.specs.Call.{address_of}
+use Rattle.lines.proofs.call.address_of.Goals as goal
+
+pub returns-then-name-eq-DATAGRAM : goal.returns-then-name-eq-DATAGRAM
+unfolding address_of
+returns-then-name-eq-DATAGRAM c = sym (pick-t _ _ _ (eq-eqb _ _ c.if-name-eq-DATAGRAM.true))
+
+pub returns-then-name-eq-IQ : goal.returns-then-name-eq-IQ
+unfolding address_of
+returns-then-name-eq-IQ c = sym (pick-f _ _ _ (ne_eqb _ _ c.if-name-eq-DATAGRAM.false) ∙ pick-t _ _ _ (eq-eqb _ _ c.if-name-eq-IQ.true))
+
+pub returns-then-name-eq-STATUS : goal.returns-then-name-eq-STATUS
+unfolding address_of
+returns-then-name-eq-STATUS c = sym (pick-f _ _ _ (ne_eqb _ _ c.if-name-eq-DATAGRAM.false) ∙ pick-f _ _ _ (ne_eqb _ _ c.if-name-eq-IQ.false) ∙ pick-t _ _ _ (eq-eqb _ _ c.if-name-eq-STATUS.true))
+
+pub returns : goal.returns
+unfolding address_of
+returns c = sym (pick-f _ _ _ (ne_eqb _ _ c.if-name-eq-DATAGRAM.false) ∙ pick-f _ _ _ (ne_eqb _ _ c.if-name-eq-IQ.false) ∙ pick-f _ _ _ (ne_eqb _ _ c.if-name-eq-STATUS.false))

@@ -1,0 +1,7 @@
+-- `lines::call::call_of`: the eight numbers, each by its own function. Assumes nothing.
+use Rattle.lines.specs.Call.{call_of}
+use Rattle.lines.proofs.call.call_of.Goals as goal
+
+pub returns : goal.returns
+unfolding call_of
+returns c = rw (c.later_of-later.ensures, c.address_of-address.ensures, c.port_of-from.ensures, c.count_of-count.ensures, c.places_of-places.ensures)
