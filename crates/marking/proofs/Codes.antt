@@ -20,7 +20,6 @@ use Rattle.tally.specs.declared.account.Noted.{Noted}
 use Rattle.marking.specs.Records.{heard_as}
 use Rattle.marking.specs.Noting.{said_of, SaidBy, noted_by, table_noted, handed_by, heard_in, note_of, table_of}
 use Rattle.marking.specs.declared.note.Said.{Said}
-use Rattle.marking.specs.declared.note.Said.TheVariants as Said
 
 -- ---- what is said
 

@@ -11,13 +11,10 @@ use borrow.Author.Tests.{ltb-true}
 use Rattle.base.proofs.Picks.{pick-either}
 use Rattle.model.proofs.Pairs.{datagram-samples}
 use Rattle.account.specs.Whole.{count_of, ahead, higher}
-use Rattle.account.specs.Book.{missing}
 use Rattle.account.specs.Ledger.{Entry, late_entry, accepted_in, samples_in, samples_of, missing_told, highest}
 use Rattle.account.proofs.Numbers.{from-distance, count-on, count_small}
-use Rattle.account.proofs.Verdict.{says}
 use Rattle.account.proofs.Stretches.{distance-of, is-higher}
-use Rattle.tally.specs.Stretch.{sum, above, more_of}
-use Rattle.tally.specs.Stretches.{after}
+use Rattle.tally.specs.Stretch.{sum, more_of}
 use Rattle.tally.specs.declared.stretch.Stretch.{Stretch}
 use Rattle.marking.specs.Spans.{last_reading_of}
 use Rattle.marking.proofs.Streams.{record_in}

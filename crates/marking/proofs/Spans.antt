@@ -16,7 +16,7 @@ use Rattle.model.specs.Answer.{Tells}
 use Rattle.model.specs.declared.settings.Settings.{Settings}
 use Rattle.account.specs.Whole.{count_of, ahead, behind, Near}
 use Rattle.account.specs.Book.{News, Quiet, Began, Took, Came, Book, missing_in, missing, noted}
-use Rattle.account.specs.Ledger.{Line, Entry, entry, ledger, fitting, late_entry, accepted_in, samples_of, missing_told, highest}
+use Rattle.account.specs.Ledger.{Line, Entry, entry, ledger, fitting, late_entry, accepted_in, samples_of, missing_told}
 use Rattle.account.specs.Demand3.{NearIn, Lies}
 use Rattle.account.specs.Exact.{Exact, AllLines}
 use Rattle.account.proofs.Numbers.{count_small}

@@ -8,13 +8,12 @@ use lib.ListN.{length}
 use lib.IntN.{ℤ}
 use native.Mathlib.Omega.{arith}
 use borrow.Author.Tests.{eqb-true, not-false, le-ltb}
-use Rattle.base.specs.Told.{Told, refused}
+use Rattle.base.specs.Told.{Told}
 use Rattle.base.proofs.Picks.{pick-f, pick-either}
 use Rattle.octets.specs.Number.{be_at}
 use Rattle.iq.specs.Iq.{rows, count_of, header_told}
 use Rattle.sequence.specs.declared.SeqEvent.{SeqEvent}
 use Rattle.model.specs.Answer.{Answer, Tells, tells}
-use Rattle.model.specs.Answer as Answer
 use Rattle.model.specs.Routing.{Routed, iq, status, ignored, malformed, by_header, by_offset, routed}
 use Rattle.model.specs.Host.{Incoming, Call, Begin, Pass, Arrival, Take, Close, TakeMissing, TakeDiscontinuity, TakeStalled, Reply}
 use Rattle.model.specs.declared.sender.Sender.{Sender}

@@ -11,7 +11,6 @@ use Rattle.tally.specs.declared.account.Noted.{Noted}
 use Rattle.answers.specs.Code.{answer_of}
 use Rattle.marking.specs.Records.{event_of, number_in, heard_as}
 use Rattle.marking.specs.declared.note.Said.{Said}
-use Rattle.marking.specs.declared.note.Said.TheVariants as Said
 
 abbrev pub said_of : Answer → Said
 said_of (heard e missing) = Said.Event (event_of e)
