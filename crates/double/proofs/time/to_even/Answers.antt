@@ -17,7 +17,7 @@ returns-then-s-gt0 c =
 
 pub returns-then-q-eq0 : goal.returns-then-q-eq0
 returns-then-q-eq0 c =
-    even-tie c.args.q c.args.t c.args.u c.args.s c.requires.1 c.requires.2 c.ranges.q.fits (omega arith) (omega arith) (omega arith) c.if-q-eq0.true
+    even-tie c.args.q c.args.t c.args.u c.args.s c.requires.1 c.requires.2 c.ranges.q.fits (omega arith) (omega arith) (omega arith) (omega arith)
 
 pub returns : goal.returns
 returns c =

@@ -4,7 +4,7 @@ use Rattle.double.proofs.Wholes.{ceil-none, ceil-some}
 use Rattle.double.proofs.whole.ceil_u64.Goals as goal
 
 pub returns-then-s-eq0 : goal.returns-then-s-eq0
-returns-then-s-eq0 c = ceil-none c.near-s.ensures c.if-s-eq0.true (omega arith)
+returns-then-s-eq0 c = ceil-none c.near-s.ensures (omega arith) (omega arith)
 
 pub returns : goal.returns
 returns c = c.saturating_add.ensures ∙ ceil-some c.near-s.ensures c.if-s-eq0.false
