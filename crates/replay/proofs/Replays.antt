@@ -1,13 +1,12 @@
 -- What `carry_on` and `replay` return, from what their parts were promised. Assumes nothing.
 use Prim.Native.Nat.{ℕ}
 use mathlib.Core.Path.{◌≡◌, sym, ap, subst, ◌∙◌}
-use mathlib.Core.Bool.{Bool, true, false, not}
+use mathlib.Core.Bool.{Bool, true, false}
 use mathlib.Core.List.{List}
 use lib.ListN.{length}
 use lib.Dec.{T}
 use lib.Ieee.{Float}
 use native.Mathlib.Omega.{arith}
-use borrow.Author.Tests.{not-true, not-false}
 use Rattle.base.proofs.Picks.{pick-t, pick-f}
 use Rattle.model.specs.Settings.{settings_answer, is_given, accepts}
 use Rattle.model.specs.Open.{opened}
@@ -28,16 +27,16 @@ use Rattle.replay.proofs.Chunks.{ran-is, carries-runs, runs-account}
 -- ---- carried on
 
 module _ (outcome : Outcome) (b : Bool) (st : State) (l : Lent) (answers₀ : List ℕ) (e : outcome ≡ outcome_of l (length answers₀)) (h : b ≡ is_ran outcome) where
-  pub ran-told : not b ≡ false → outcome_of l (length answers₀) ≡ Ran
-  ran-told k = ran-is _ (ap is_ran (sym e) ∙ sym h ∙ not-false _ k)
+  pub ran-told : b ≡ true → outcome_of l (length answers₀) ≡ Ran
+  ran-told k = ran-is _ (ap is_ran (sym e) ∙ sym h ∙ k)
 
-  pub refused-list : not b ≡ true → Carries outcome st l answers₀ answers₀ l.packets l.places st
+  pub refused-list : b ≡ false → Carries outcome st l answers₀ answers₀ l.packets l.places st
   unfolding carried
   refused-list k =
-      let f : is_ran (outcome_of l (length answers₀)) ≡ false = ap is_ran (sym e) ∙ sym h ∙ not-true _ k in
+      let f : is_ran (outcome_of l (length answers₀)) ≡ false = ap is_ran (sym e) ∙ sym h ∙ k in
       record { leaves = ap (λ (t : Outcome). untouched t st l answers₀) e ∙ sym (pick-f _ _ _ f) }
 
-  pub run-list : not b ≡ false → (answers packets : List ℕ) (places : List Float) (st' : State) → RunsAll st l answers packets places st'
+  pub run-list : b ≡ true → (answers packets : List ℕ) (places : List Float) (st' : State) → RunsAll st l answers packets places st'
       → Carries outcome st l answers₀ answers packets places st'
   unfolding carried
   run-list k answers packets places st' r =
@@ -57,21 +56,21 @@ module _ (s : Settings) (opening : ℕ) (answer : SettingsAnswer) (x : Session) 
   unfolding accepts
   accepts-is v k = ap is_given (sym o.answers) ∙ sym h ∙ k
 
-  pub not_opened : not b ≡ true → Replays s opening answer NotOpened samples l answers₀ answers₀ l.packets l.places (joined x samples)
+  pub not_opened : b ≡ false → Replays s opening answer NotOpened samples l answers₀ answers₀ l.packets l.places (joined x samples)
   unfolding replayed opened
   not_opened k =
-      let f = accepts-is false (not-true _ k) in
+      let f = accepts-is false k in
       record {
         opens = o.answers;
         leaves = ap (λ (t : Session). untouched NotOpened (joined t samples) l answers₀) (o.leaves ∙ pick-f _ _ _ f) ∙ sym (pick-f _ _ _ f);
         account = λ e numbers. let z : ◌≡◌ {A = ℕ} 0 1 = cc in absurd (omega arith);
       }
 
-  pub replays : not b ≡ false → length samples ≡ 476 → (outcome : Outcome) (answers packets : List ℕ) (places : List Float) (st : State)
+  pub replays : b ≡ true → length samples ≡ 476 → (outcome : Outcome) (answers packets : List ℕ) (places : List Float) (st : State)
       → Carries outcome (joined x samples) l answers₀ answers packets places st → Replays s opening answer outcome samples l answers₀ answers packets places st
   unfolding replayed
   replays k size outcome answers packets places st c =
-      let f = accepts-is true (not-false _ k) in
+      let f = accepts-is true k in
       let d : Carries outcome (opened_with samples s opening) l answers₀ answers packets places st =
       subst (λ (t : Session). Carries outcome (joined t samples) l answers₀ answers packets places st) o.leaves c in
       record {

@@ -1,5 +1,5 @@
 -- `replay::run::run` meets its contract: each turn of the loop is one call of the list. Assumes nothing.
-use Prim.Native.Nat.{◌-◌, ◌/◌, ◌<◌}
+use Prim.Native.Nat.{◌/◌, ◌<◌}
 use mathlib.Core.Path.{refl, sym, ap, subst, ◌∙◌}
 use lib.ListN.{length}
 use native.Mathlib.Omega.{arith}
@@ -27,7 +27,7 @@ pub overflow_add-i : goal.overflow_add-i
 overflow_add-i c = omega (arith, c.loop-i-test.true, c.well_formed.1.1.0)
 
 pub loop-i-preserved : goal.loop-i-preserved
-loop-i-preserved c = let a = c.args in let l = c.loop-i in let n = length a.calls.now / 8 in let h : l.i < n = omega (arith, c.loop-i-test.true) in let r = room (lent_by a.calls.now a.octets.now a.numbers.now a.packets.now a.places.now) in (omega (arith, h), c.packets-1.given ∙ l.invariant.1, c.places-1.given ∙ l.invariant.2, c.answers-1.given ∙ l.invariant.3, turned (joined a.first a.samples.now) (lent_by a.calls.now a.octets.now a.numbers.now a.packets.now a.places.now) a.answers.now (length a.calls.now / 8) l.i l.taken (joined l.s l.samples) l.answers l.packets l.places h l.invariant.4 _ _ _ _ _ _ c.words_at-w.ensures (now-taken a.calls.now r n l.i l.taken h _ _ _ c.words_at-w.ensures c.taken_by-need.ensures c.plus-next.ensures.sum) c.turn_at-s.ensures)
+loop-i-preserved c = let a = c.args in let l = c.loop-i in let n = length a.calls.now / 8 in let h : l.i < n = omega (arith, c.loop-i-test.true) in let r = room (lent_by a.calls.now a.octets.now a.numbers.now a.packets.now a.places.now) in (omega (arith, h), omega arith, omega arith, omega arith, turned (joined a.first a.samples.now) (lent_by a.calls.now a.octets.now a.numbers.now a.packets.now a.places.now) a.answers.now (length a.calls.now / 8) l.i l.taken (joined l.s l.samples) l.answers l.packets l.places h l.invariant.4 _ _ _ _ _ _ c.words_at-w.ensures (now-taken a.calls.now r n l.i l.taken h _ _ _ c.words_at-w.ensures c.taken_by-need.ensures c.plus-next.ensures.sum) c.turn_at-s.ensures)
 
 pub returns : goal.returns
 returns c = let l = c.loop-i in let a = c.args in let e = lengths (lent_by a.calls.now a.octets.now a.numbers.now a.packets.now a.places.now) (length a.answers.now) c.requires in ran (joined a.first a.samples.now) (lent_by a.calls.now a.octets.now a.numbers.now a.packets.now a.places.now) a.answers.now (length a.calls.now / 8) l.i l.taken (joined l.s l.samples) l.answers l.packets l.places (omega arith) refl (omega (arith, e.0, e.1, l.invariant.0)) l.invariant.4
