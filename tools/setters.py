@@ -15,9 +15,9 @@ CHANGED = [
 
 # Where the types come from that a setter names beside the structs of CHANGED.
 ELSEWHERE = {
-    "SeqTracker": "Rattle·sequence.specs.declared.SeqTracker",
-    "StallEpisode": "Rattle·stall.specs.declared.StallEpisode",
-    "InputHealthCounters": "Rattle·health.specs.declared.InputHealthCounters",
+    "SeqTracker": "Rattle.sequence.specs.declared.SeqTracker",
+    "StallEpisode": "Rattle.stall.specs.declared.StallEpisode",
+    "InputHealthCounters": "Rattle.health.specs.declared.InputHealthCounters",
 }
 
 
@@ -25,10 +25,6 @@ def fields(module, struct):
     text = open(f"crates/model/src/{module}.rt", encoding="utf-8").read()
     body = re.search(r"pub struct %s \{(.*?)\n\}" % struct, text, re.S).group(1)
     return re.findall(r"pub (\w+): ([^\n]*),", body)
-
-
-def quoted(name):
-    return f"«{name}»" if "_" in name else name
 
 
 def kind(of):
@@ -50,17 +46,14 @@ def main():
             value = kind(dict(of)[name])
             if value not in ("ℕ", "Bool", "List ℕ") and value not in ELSEWHERE:
                 types.setdefault(value, module)
-            hyphened = name.replace("_", "-")
-            parts = "; ".join(f"{quoted(n)} = {'x' if n == name else 's .' + quoted(n)}" for n, _ in of)
-            setters.append(f"abbrev pub with-{hyphened} : {struct} → {value} → {struct}\nwith-{hyphened} s x =\n    record {{ {parts} }}\n")
+            parts = "; ".join(f"{n} = {'x' if n == name else 's.' + n}" for n, _ in of)
+            setters.append(f"abbrev pub with_{name} : {struct} → {value} → {struct}\nwith_{name} s x =\n    record {{ {parts} }}\n")
     print("-- The parts of a session with one of them changed: made by tools/setters.py. Definitions only.")
-    print("use Prim.Native.Nat.{ℕ}")
-    print("use mathlib.Core.Bool.{Bool}")
-    print("use mathlib.Core.List.{List}")
+    print("use Rattle.std.specs.Prelude.{ℕ, Bool, List}")
     for name, path in ELSEWHERE.items():
         print(f"use {path}.{{{name}}}")
     for name, module in types.items():
-        print(f"use Rattle·model·specs.specs.declared.{module}.{name}.{{{name}}}")
+        print(f"use Rattle.model.specs.declared.{module}.{name}.{{{name}}}")
     print()
     print("\n".join(setters), end="")
 
