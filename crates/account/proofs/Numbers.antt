@@ -11,7 +11,7 @@ use borrow.Author.Tests.{lt-ltb, le-ltb, le-leb, lt-leb, eq-eqb, ne_eqb}
 use Rattle.base.specs.Pick.{pick}
 use Rattle.sequence.specs.Tracker.{less, zero_restarts, meant}
 use Rattle.sequence.specs.declared.SeqEvent.{SeqEvent}
-use Rattle.sequence.specs.declared.SeqEvent.TheVariants.{Gap, Stale, Restart}
+use Rattle.sequence.specs.declared.SeqEvent.TheVariants.{Stale, Restart}
 use Rattle.model.specs.Rules.{capped}
 use Rattle.account.specs.Whole.{count_of, ahead, behind, Near, fits_above, fits_below, verdict}
 

@@ -1,5 +1,4 @@
 -- A host that refuses what it likes meets demand 3: it takes demand 2 to rule it out. Assumes nothing.
-use Prim.Native.Nat.{ℕ}
 use mathlib.Core.Path.{◌≡◌, refl}
 use mathlib.Core.Bool.{Bool}
 use mathlib.Core.List.{[]}

@@ -3,7 +3,6 @@ use Rattle.std.proofs.Common.{◌≡◌, ℕ, eqb, get_or, refl}
 use Rattle.base.specs.Pick.{pick}
 use Rattle.base.specs.Told.{Told, gives}
 use Rattle.base.proofs.Told.{apart}
-use Rattle.base.specs.Told as Told
 use Rattle.sequence.specs.declared.SeqEvent.{SeqEvent}
 use Rattle.sequence.specs.declared.SeqEvent.TheVariants.{InOrder}
 use Rattle.model.specs.Settings.{settings_answer}

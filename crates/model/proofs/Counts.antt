@@ -4,7 +4,6 @@ use lib.Ieee.{Float}
 use Rattle.base.specs.Pick.{pick}
 use Rattle.health.specs.Counters.{none_counted}
 use Rattle.health.specs.declared.InputHealthCounters.{InputHealthCounters}
-use Rattle.model.specs.Routing.{malformed}
 use Rattle.model.specs.Host.{Call, Reply, trace, final}
 use Rattle.model.specs.State.{State}
 use Rattle.model.specs.Session.{step, opened_with, session}

@@ -1,15 +1,14 @@
 -- What is due: the streams that keepalives and a step list, and the clocks and the attenuator after them, are those of Timely. Assumes
 -- nothing.
-use Rattle.std.proofs.Common.{◌≡◌, ℕ, ◌-◌, Bool, true, false, leb, List, [], ◌∷◌, ◌++◌, sym, refl, ap, ◌∙◌, append-nil}
+use Rattle.std.proofs.Common.{◌≡◌, ℕ, Bool, true, false, List, [], ◌∷◌, ◌++◌, refl, ap, ◌∙◌}
 use Rattle.base.specs.Pick.{pick}
-use Rattle.base.proofs.Picks.{pick-either}
 use Rattle.attenuator.specs.Controller as Controller
 use Rattle.attenuator.specs.declared.AttenuationStep.{AttenuationStep}
 use Rattle.attenuator.specs.declared.AttenuationStep.TheVariants.{NoStep, Step}
 use Rattle.attenuator.specs.declared.Stepped.{Stepped}
 use Rattle.model.specs.Sending.{Sending, idle, then, send, send_high, send_rx_tx, send_general, high_if_due, rx_tx_if_due, general_if_due, keepalive, applied, stepped, tick, due_packets}
 use Rattle.model.specs.Parts.{with_high_priority, with_rx_tx_specific, with_general, with_attenuator}
-use Rattle.model.specs.Timely.{Turn, turned, ticking, high_due, rx_tx_due, general_due, is_step, step_streams, step_clocks, due_clocks}
+use Rattle.model.specs.Timely.{Turn, turned, ticking, high_due, rx_tx_due, general_due, step_streams, step_clocks, due_clocks}
 use Rattle.model.specs.declared.session.Attenuation.{Attenuation}
 use Rattle.model.specs.declared.session.Attenuation.TheVariants.{Off, On}
 use Rattle.model.specs.declared.session.Attenuator.{Attenuator}

@@ -1,13 +1,12 @@
 -- What each call leaves as it was, of every state; and what follows of a list of calls. Assumes nothing.
-use Rattle.std.proofs.Common.{◌≡◌, ℕ, List, [], ◌∷◌, sym, refl, ap, ◌∙◌, arith}
-use mathlib.Core.Option.{some, none}
-use lib.Ieee.{Float}
+use Rattle.std.proofs.Common.{◌≡◌, ℕ, List, [], ◌∷◌, refl, ap, ◌∙◌, arith}
+use mathlib.Core.Option.{none}
 use Rattle.base.proofs.Picks.{pick-either}
 use Rattle.base.specs.Rows.{unless}
 use Rattle.base.proofs.Rows.{unless-map}
 use Rattle.base.specs.Told.{Told, gives, refused}
 use Rattle.model.specs.Routing.{Routed, iq, status, ignored, malformed}
-use Rattle.model.specs.Host.{Incoming, Call, Begin, Pass, Arrival, Take, Close, TakeMissing, TakeDiscontinuity, TakeStalled, Step, final}
+use Rattle.model.specs.Host.{Incoming, Call, Begin, Pass, Arrival, Take, Close, TakeMissing, TakeDiscontinuity, TakeStalled, Step}
 use Rattle.model.specs.State.{State, at_reading, keeping}
 use Rattle.model.specs.Table.{rows_of, refusal_of}
 use Rattle.model.specs.Begin.{begun_by}
@@ -23,7 +22,6 @@ use Rattle.model.specs.Leaves.{reading_of, reading_after, stored, counts_after, 
 use Rattle.model.specs.Parts.{with_common}
 use Rattle.model.specs.declared.session.Attenuation.{Attenuation}
 use Rattle.model.specs.declared.session.Attenuation.TheVariants.{Off, On}
-use Rattle.model.specs.declared.session.Common.{Common}
 use Rattle.model.specs.declared.session.Session.{Session}
 use Rattle.model.proofs.Refusals.{refusal, step_is, step-either}
 use Rattle.model.proofs.Sends.{due-steady, stepped-steady, stop-steady}

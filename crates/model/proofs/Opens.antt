@@ -11,11 +11,10 @@ use Rattle.tuning.specs.Centre.{accepted_centre}
 use Rattle.tuning.specs.Phase.{phase_word_of}
 use Rattle.tuning.specs.Rate.{khz_of}
 use Rattle.tuning.proofs.Centres.{phase-of-accepted}
-use Rattle.stall.specs.Episode.{taken}
 use Rattle.model.specs.Settings.{accepts}
 use Rattle.model.specs.Routing.{Routed, iq, status, ignored, malformed}
-use Rattle.model.specs.Host.{Call, Begin, Pass, Arrival, Take, Close, TakeMissing, TakeDiscontinuity, TakeStalled, Step, Reply, final}
-use Rattle.model.specs.State.{State, keeping}
+use Rattle.model.specs.Host.{Call, Begin, Pass, Arrival, Take, Close, TakeMissing, TakeDiscontinuity, TakeStalled, Step, final}
+use Rattle.model.specs.State.{State}
 use Rattle.model.specs.Table.{refusal_of}
 use Rattle.model.specs.Arrival.{route}
 use Rattle.model.specs.Open.{tuned, new_common, new_receiver, new_session, unopened, opened}

@@ -1,8 +1,7 @@
 -- Demand 1 of the calls: whatever the state, a call is refused by the first row of 01's table that applies, which changes nothing, and is
 -- answered where none applies. Assumes nothing.
-use Rattle.std.proofs.Common.{◌≡◌, ℕ, false, T, List, [], ◌∷◌, sym, refl, ap, arith}
-use mathlib.Core.Option.{Option, some, none}
-use lib.Ieee.{Float}
+use Rattle.std.proofs.Common.{◌≡◌, ℕ, false, T, List, [], ◌∷◌, refl, arith}
+use mathlib.Core.Option.{some, none}
 use Rattle.base.proofs.Picks.{pick-either}
 use Rattle.base.specs.Rows.{first_row, unless}
 use Rattle.base.proofs.Rows.{NoRow, unless-either, unless-map, unless-refused}
@@ -21,7 +20,6 @@ use Rattle.model.specs.Close.{stop, close}
 use Rattle.model.specs.Drain.{take_missing, take_discontinuity, take_stalled}
 use Rattle.model.specs.Session.{step, answered}
 use Rattle.model.specs.Refusals.{lent_packets, lent_buffer, Guarded}
-use Rattle.model.specs.Answer as Answer
 use Rattle.model.specs.Answer.{Answer, tells}
 use Rattle.model.specs.declared.session.Attenuation.{Attenuation}
 use Rattle.model.specs.declared.session.Attenuation.TheVariants.{Off, On}

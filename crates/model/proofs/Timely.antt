@@ -1,19 +1,15 @@
 -- Every call lists what is due, and a Pass tells a stall exactly where its time has passed, over every list of calls. Assumes nothing.
-use Rattle.std.proofs.Common.{◌≡◌, ℕ, ◌+◌, ◌-◌, max, Bool, true, false, not, ◌&&◌, ◌||◌, T, ltb, leb, List, [], ◌∷◌, sym, refl, ap, ◌∙◌, subst, arith}
-use mathlib.Core.Option.{Option, some, none}
+use Rattle.std.proofs.Common.{◌≡◌, ℕ, ◌+◌, ◌-◌, max, Bool, true, false, not, ◌&&◌, ◌||◌, ltb, leb, List, [], ◌∷◌, sym, refl, ap, ◌∙◌, subst, arith}
 use lib.Ieee.{Float}
 use Rattle.base.specs.Pick.{pick}
 use Rattle.base.specs.Told.{Told, gives, refused}
 use Rattle.base.proofs.Picks.{pick-t, pick-f, pick-either}
 use Rattle.base.proofs.Rows.{NoRow}
-use Rattle.sequence.specs.declared.SeqEvent.{SeqEvent}
 use Rattle.attenuator.specs.Controller as Controller
 use Rattle.stall.specs.Episode.{is_due}
 use Rattle.wire.specs.Status.{overload_told, overloaded}
-use Rattle.model.specs.Answer.{ready, soft_stall, hard_stall, sent, done, heard, tells}
-use Rattle.model.specs.Rules.{is_stale}
+use Rattle.model.specs.Answer.{ready, sent, done, tells}
 use Rattle.model.specs.Routing.{Routed, iq, status, ignored, malformed}
-use Rattle.model.specs.Settings.{accepts}
 use Rattle.model.specs.Host.{Incoming, Call, Begin, Pass, Arrival, Take, Close, TakeMissing, TakeDiscontinuity, TakeStalled, Step, trace}
 use Rattle.model.specs.State.{State, left, waits, is_open, or_zero, quiet_since_of, at_reading, replied, keeping}
 use Rattle.model.specs.Table.{rows_of}
@@ -27,7 +23,7 @@ use Rattle.model.specs.Arrival.{hear, heard_as, heard_iq, overload, heard_status
 use Rattle.model.specs.Take.{handed, hand_out, handable}
 use Rattle.model.specs.Close.{stop}
 use Rattle.model.specs.Drain.{take_missing, take_discontinuity, take_stalled}
-use Rattle.model.specs.Session.{step, answered, opened_with, session}
+use Rattle.model.specs.Session.{step, answered, session}
 use Rattle.model.specs.Timely.{Watch, woken, by_pass, soft_due, hard_due, hearing, heard_streams, step_streams, step_clocks, serving, watched_route, watched, OnTime, AllOnTime, Timely}
 use Rattle.model.specs.declared.receiver.Anchor.TheVariants.{Unset}
 use Rattle.model.specs.declared.session.Attenuation.{Attenuation}

@@ -1,5 +1,5 @@
 -- The walk over the waiting numbers: of as many as an Arrival takes, the total saturates for none. Assumes nothing.
-use Rattle.std.proofs.Common.{◌≡◌, ℕ, ◌+◌, ◌*◌, ◌<◌, ◌≤◌, min, List, [], ◌∷◌, length, refl, arith, ltb-true}
+use Rattle.std.proofs.Common.{◌≡◌, ℕ, ◌*◌, ◌<◌, ◌≤◌, min, List, [], ◌∷◌, length, arith, ltb-true}
 use Rattle.base.proofs.Picks.{pick-either}
 use Rattle.double.specs.Whole.{most}
 use Rattle.sequence.specs.Tracker.{less, meant, meaning, moved, observed}

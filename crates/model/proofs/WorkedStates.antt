@@ -5,7 +5,7 @@ use Rattle.double.specs.Whole.{nat_of, rounded}
 use Rattle.stream.specs.Elapsed.{jump_limit, restart_missing, account_time, plausible}
 use Rattle.stall.specs.Episode.{delivered, is_due}
 use Rattle.model.specs.Rules.{used, elapsed, outage, added, capped, missing_of}
-use Rattle.model.specs.Routing.{malformed, routed, by_offset}
+use Rattle.model.specs.Routing.{routed, by_offset}
 use Rattle.model.specs.Host.{Call, Pass, Arrival, Close}
 use Rattle.model.specs.Parts.{with_receiver, with_tracker, with_queue_pos, with_stall}
 use Rattle.model.specs.Pass.{pass, passed, stall_soft}
@@ -16,7 +16,7 @@ use Rattle.model.specs.Open.{new_common}
 use Rattle.model.specs.Session.{step}
 use Rattle.model.specs.Lists.{usual, iq_at, iq_with, room, silence}
 use Rattle.base.specs.Cases.{Case, case, Hold}
-use Rattle.model.specs.Edges.{Given, number, window, held}
+use Rattle.model.specs.Edges.{Given, held}
 use Rattle.model.specs.declared.receiver.Window.TheVariants.{Shut, Open}
 use Rattle.model.specs.declared.receiver.Slot.TheVariants.{Holds}
 use Rattle.model.specs.declared.sender.Sender.TheVariants.{V6}

@@ -4,7 +4,6 @@ use Rattle.base.specs.Pick.{pick}
 use Rattle.base.specs.Rows.{unless}
 use Rattle.base.specs.Told.{Told, gives, refused}
 use Rattle.iq.specs.Iq.{samples_of}
-use Rattle.sequence.specs.Tracker.{observed}
 use Rattle.wire.specs.Status.{overload_told, overloaded}
 use Rattle.sequence.specs.declared.SeqEvent.{SeqEvent}
 use Rattle.attenuator.specs.Controller as Controller

@@ -16,7 +16,6 @@ use Rattle.model.specs.Lists.{usual_at, usual, iq_at, room, silence, read_at}
 use Rattle.model.specs.Session.{step, session}
 use Rattle.model.specs.Routing.{Routed}
 use Rattle.model.specs.Settings.{settings_told}
-use Rattle.model.specs.Open.{opened}
 
 -- what a definition gives
 pub data Given : Type 0 where

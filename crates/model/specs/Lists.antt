@@ -1,5 +1,5 @@
 -- Settings, datagrams and lists of calls that 01's edges, worked cases and trials are stated with. Definitions only.
-use Rattle.std.specs.Prelude.{◌≡◌, ℕ, ◌+◌, false, List, [], ◌∷◌, ◌++◌, replicate, pos, refl, Float}
+use Rattle.std.specs.Prelude.{◌≡◌, ℕ, false, List, [], ◌∷◌, ◌++◌, replicate, pos, refl, Float}
 use Rattle.std.specs.Float.{fin, binary64}
 use Rattle.std.specs.Float.Ieee.{of_int}
 use Rattle.octets.specs.Number.{be}

@@ -4,7 +4,6 @@ use Rattle.std.specs.Prelude.{ℕ, not, List, [], ◌∷◌, length, ◌==◌, n
 use Rattle.std.proofs.Math.Option.{Option, some, none}
 use Rattle.base.specs.Rows.{Row, row}
 use Rattle.base.specs.Told.{Told, gives}
-use Rattle.base.specs.Told as Told
 use Rattle.stream.specs.Size.{max_buffered}
 use Rattle.tuning.specs.Centre.{whole_centre, below_nyquist}
 use Rattle.tuning.specs.Rate.{is_rate}

@@ -11,7 +11,7 @@ use Rattle.attenuator.specs.Controller as Controller
 use Rattle.attenuator.specs.declared.AttenuationStep.{AttenuationStep}
 use Rattle.attenuator.specs.declared.AttenuationStep.TheVariants.{NoStep, Step}
 use Rattle.attenuator.specs.declared.Stepped.{Stepped}
-use Rattle.model.specs.Answer.{Word, ready, soft_stall, hard_stall, sent, done, Tells, tells}
+use Rattle.model.specs.Answer.{ready, soft_stall, hard_stall, sent, done, Tells, tells}
 use Rattle.wire.specs.Command.{offset_of}
 use Rattle.model.specs.Rules.{is_stale}
 use Rattle.model.specs.Routing.{Routed, iq, status, ignored, malformed, routed}

@@ -1,5 +1,4 @@
 -- Settings are accepted exactly where their answer has no refusal's number. Assumes nothing.
-use Prim.Native.Nat.{ℕ}
 use mathlib.Core.Path.{◌≡◌, refl}
 use lib.Dec.{eqb}
 use Rattle.model.specs.Settings.{settings_answer, is_given}

@@ -1,5 +1,5 @@
 -- What rises with an elapsed time or with a count: none of the stream's figures ever falls. Assumes nothing.
-use Rattle.std.proofs.Common.{ℕ, ◌+◌, ◌-◌, ◌^◌, ◌<◌, ◌≤◌, min, T, ℤ, pos, sym, refl, subst₂, le_trans, le_of_eq, lt_of_le_of_lt, arith}
+use Rattle.std.proofs.Common.{ℕ, ◌+◌, ◌-◌, ◌^◌, ◌<◌, ◌≤◌, min, T, pos, sym, refl, le_trans, le_of_eq, lt_of_le_of_lt, arith}
 use lib.Ieee.{Float, binary64, mul, div, le, of_int}
 use lib.Ieee.Positive.{num, den, den_pos, positive}
 use Rattle.double.specs.Whole.{most, ceil_at, ceil_of, round_at}

@@ -1,5 +1,5 @@
 -- `outage::elapsed::backlog_datagrams` meets its contract: each turn of the loop takes one number off what is left of the walk. Assumes nothing.
-use Prim.Native.Nat.{ℕ, ◌-◌, min}
+use Prim.Native.Nat.{ℕ, min}
 use mathlib.Core.Path.{◌≡◌, ap, ◌∙◌}
 use native.Mathlib.Omega.{arith}
 use Rattle.double.specs.Whole.{most}

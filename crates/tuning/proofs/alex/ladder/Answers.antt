@@ -1,6 +1,5 @@
 -- `tuning::alex::ladder` meets its contract: the bits at the rung's place, of which the table has one past the last rung. Assumes nothing.
 use mathlib.Core.Path.{◌≡◌}
-use Prim.Native.Nat.{◌<◌}
 use native.Mathlib.Omega.{arith}
 use borrow.Author.Rules.{rules}
 use lib.ListN.{length}

@@ -1,6 +1,5 @@
 -- `tuning::alex::rung` meets its contract: the place of the first rung that f stands on. Assumes nothing.
 use mathlib.Core.Path.{sym, ◌∙◌}
-use Prim.Native.Nat.{◌-◌}
 use native.Mathlib.Omega.{arith}
 use borrow.Author.Rules.{rules}
 use lib.Ieee.{nan}

@@ -1,7 +1,6 @@
 -- `tuning::rate::rate_khz` meets its contract: the lowest rate is doubled until it is the rate, or may be doubled no more. Assumes
 -- nothing.
 use mathlib.Core.Path.{refl, subst}
-use Prim.Native.Nat.{◌-◌, ◌*◌}
 use native.Mathlib.Omega.{arith}
 use lib.Ieee.{ne}
 use borrow.Author.Tests.{not-true, not-false}

@@ -1,6 +1,5 @@
 -- `tuning::rate::rate_khz` meets its contract: the lowest rate is doubled until it is the rate, or may be doubled no more. Assumes
 -- nothing.
-use Prim.Native.Nat.{◌-◌}
 use Rattle.tuning.proofs.RateLoop.{Going}
 use Rattle.tuning.proofs.rate.rate_khz.Given as goal
 
