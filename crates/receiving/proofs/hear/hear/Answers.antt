@@ -10,11 +10,11 @@ returns-in_default c = let a = c.args in
     let n : length a.samples.now ≡ 476 = search rules in
     heard-accepted a.rate a.r a.health a.samples.now a.reading a.later a.count a.datagram.now a.waiting.now
     _ c.judge-judged.ensures _ _ _
-    c.in_default.not-Stale
+    (search rules)
     c.report_event-report.ensures c.accept.ensures
     (filled a.datagram.now a.samples.now a.count _ _ (sym c.requires) n c.parse_iq_datagram.ensures)
 
 pub returns : goal.returns
 returns c = let a = c.args in
     heard-stale a.rate a.r a.health a.samples.now a.reading a.later a.count a.datagram.now a.waiting.now
-    _ c.judge-judged.ensures c.in-Stale.is
+    _ c.judge-judged.ensures (cc)
