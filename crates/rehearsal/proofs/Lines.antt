@@ -1,22 +1,22 @@
 -- The datagrams of a list of calls are the practice radio's: that of an `iq` line is the one that it writes for the line's number, and
 -- those of the lines `status .. 0` and `status .. 1` are its status packets. Assumes nothing.
-use Prim.Native.Nat.{ℕ, zero, suc, ◌+◌, ◌-◌, ◌*◌, ◌%◌, ◌≤◌, ◌<◌}
+use Prim.Native.Nat.{ℕ, zero, suc, ◌+◌, ◌-◌, ◌*◌, ◌<◌}
 use mathlib.Core.Path.{◌≡◌, refl, sym, ap, ◌∙◌}
-use mathlib.Core.Bool.{Bool, true, false, ◌&&◌}
+use mathlib.Core.Bool.{Bool, true, ◌&&◌}
 use mathlib.Core.List.{List, [], ◌∷◌, ◌++◌, append_assoc, append-nil}
 use native.Mathlib.Omega.{arith}
 use lib.Dec.{ltb}
 use lib.IntN.{ℤ, pos, negsuc}
 use lib.ListN.{length, take, drop, length-append, replicate-append-replicate}
 use lib.Seq.{take_at}
-use borrow.Author.Tests.{ltb-true, ltb-false, lt-ltb, eq-eqb}
+use borrow.Author.Tests.{ltb-false, lt-ltb, eq-eqb}
 use Rattle.base.specs.Pick.{pick}
 use Rattle.base.proofs.Picks.{pick-either}
 use Rattle.octets.specs.Number.{be}
 use Rattle.octets.specs.Packet.{zeros, packet, stored}
 use Rattle.octets.specs.Written.{written}
 use Rattle.octets.proofs.Packets.{length-zeros, stored-front}
-use Rattle.values.specs.Datagram.{sample_i, pair_at, pairs, header, iq_octets, status_octets}
+use Rattle.values.specs.Datagram.{sample_i, pairs, header, iq_octets, status_octets}
 use Rattle.values.proofs.Datagrams.{length_pairs}
 use Rattle.radio_packets.specs.Iq.{is24, bits_of, all24, is_pairs, octets_of, iq_fields, iq_datagram}
 use Rattle.radio_packets.specs.Status.{status_octet, status_packet}

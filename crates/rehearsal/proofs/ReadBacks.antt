@@ -1,10 +1,10 @@
 -- What a session writes, the practice radio reads back, call by call and over every list of calls. Assumes nothing.
 use Prim.Native.Nat.{ℕ, zero, suc, ◌^◌, ◌<◌}
 use mathlib.Core.Path.{◌≡◌, refl, sym, ap, ◌∙◌, subst}
-use mathlib.Core.Bool.{Bool, true, false}
+use mathlib.Core.Bool.{true, false}
 use mathlib.Core.List.{List, [], ◌∷◌, ◌++◌, append-nil}
 use native.Mathlib.Omega.{arith}
-use lib.Dec.{T, leb}
+use lib.Dec.{T}
 use lib.ListN.{length, get_or, drop}
 use lib.Ieee.{Float}
 use Rattle.base.specs.Pick.{pick}
@@ -15,15 +15,14 @@ use Rattle.octets.specs.Written.{written}
 use Rattle.octets.proofs.Writes.{written-front}
 use Rattle.tuning.specs.Rate.{khz_of}
 use Rattle.wire.specs.Status.{overload_told, overloaded}
-use Rattle.wire.specs.declared.command.Stream.TheVariants.{HighPriority}
 use Rattle.attenuator.specs.Controller as Controller
-use Rattle.model.specs.Answer.{ready, soft_stall, hard_stall, sent, done, tells}
+use Rattle.model.specs.Answer.{ready, sent, done, tells}
 use Rattle.model.specs.Settings.{accepts}
 use Rattle.model.specs.Routing.{Routed, iq, status, ignored, malformed}
 use Rattle.model.specs.Host.{Incoming, Call, Begin, Pass, Arrival, Take, Close, TakeMissing, TakeDiscontinuity, TakeStalled, Reply, Step, trace}
 use Rattle.model.specs.State.{State, left, waits, is_open, at_reading, replied, keeping}
 use Rattle.model.specs.Table.{rows_of}
-use Rattle.model.specs.Sending.{Sending, level, stepped, due_packets, stop_packets, wrote}
+use Rattle.model.specs.Sending.{Sending, stepped, due_packets, stop_packets, wrote}
 use Rattle.model.specs.Open.{new_common, new_receiver, new_session}
 use Rattle.model.specs.Begin.{begun_by}
 use Rattle.model.specs.Pass.{stall_soft, stall_hard, passed}
@@ -31,22 +30,22 @@ use Rattle.model.specs.Arrival.{hear, heard_as, heard_iq, overload, heard_status
 use Rattle.model.specs.Take.{handed, hand_out}
 use Rattle.model.specs.Close.{stop}
 use Rattle.model.specs.Drain.{take_missing, take_discontinuity, take_stalled}
-use Rattle.model.specs.Session.{step, answered, opened_with, session}
-use Rattle.model.specs.Timely.{Watch, woken, by_pass, hearing, watched}
+use Rattle.model.specs.Session.{step, answered, session}
+use Rattle.model.specs.Timely.{Watch, woken, hearing}
 use Rattle.model.specs.declared.session.Attenuation.{Attenuation}
 use Rattle.model.specs.declared.session.Attenuation.TheVariants.{Off, On}
 use Rattle.model.specs.declared.session.Common.{Common}
 use Rattle.model.specs.declared.session.Session.{Session}
 use Rattle.model.specs.declared.settings.Settings.{Settings}
-use Rattle.model.proofs.Opens.{opened-new, fixed-step}
+use Rattle.model.proofs.Opens.{opened-new}
 use Rattle.model.proofs.Refusals.{refusal, step-either}
 use Rattle.model.proofs.Timely.{watch_of, Anchored, Fine, step-fine, open-read, is-waits, is-soft, is-hard, is-sent, soft_test, hard_test}
 use Rattle.radio.specs.Answer.{Outcome}
 use Rattle.radio.specs.State.{at_first}
 use Rattle.radio.specs.Listen.{cut, received, after}
 use Rattle.radio.specs.declared.state.Radio.{Radio}
-use Rattle.rehearsal.specs.ReadBack.{Said, said, said_by_step, said_when_due, said_when_heard, to_say, said_by, outcomes, counts_after, all_said, all_heard, OfOctets, ReadBack}
-use Rattle.rehearsal.proofs.Sayings.{db_of, Ready, Says, stepped-says, due-says, stop-says}
+use Rattle.rehearsal.specs.ReadBack.{Said, said_by_step, said_when_due, said_when_heard, said_by, outcomes, counts_after, all_said, all_heard, OfOctets, ReadBack}
+use Rattle.rehearsal.proofs.Sayings.{Ready, Says, stepped-says, due-says, stop-says}
 
 module _ (s : Settings) (ok : T (accepts s)) (oct : OfOctets s) where
   -- ---- packets that fill a buffer from its front

@@ -1,20 +1,18 @@
 -- What a session sends, the practice radio reads back: each packet, packets one behind the other, those that are due, a step's and
 -- those of Close. Assumes nothing.
-use Prim.Native.Nat.{ℕ, zero, suc, ◌+◌, ◌-◌, ◌%◌, ◌^◌, ◌≤◌, ◌<◌, min}
+use Prim.Native.Nat.{ℕ, zero, suc, ◌-◌, ◌^◌, ◌<◌}
 use mathlib.Core.Path.{◌≡◌, refl, sym, ap, ◌∙◌, subst}
 use mathlib.Core.Bool.{Bool, true, false}
-use mathlib.Core.Option.{Option, some, none}
-use mathlib.Core.List.{List, [], ◌∷◌, ◌++◌, append_assoc, append-nil}
+use mathlib.Core.Option.{Option, some}
+use mathlib.Core.List.{List, [], ◌∷◌, ◌++◌, append_assoc}
 use native.Mathlib.Omega.{arith}
 use lib.Dec.{T, leb}
-use lib.ListN.{length, get_or, set, take, drop}
+use lib.ListN.{length, get_or, take, drop}
 use lib.Seq.{take_at, drop_at}
-use lib.Ieee.{Float}
 use Rattle.base.specs.Pick.{pick}
 use Rattle.base.specs.Told.{gives}
 use Rattle.base.proofs.Picks.{pick-either}
 use Rattle.tuning.specs.Rate.{is_rate, khz_of}
-use Rattle.tuning.specs.declared.board.BoardInfo.{BoardInfo}
 use Rattle.tuning.proofs.Rates.{khz-fits, khz-again}
 use Rattle.tuning.proofs.Widths.{phase-small, alex-small}
 use Rattle.wire.specs.Command.{offset_of, size_of}
@@ -28,12 +26,11 @@ use Rattle.attenuator.specs.declared.Stepped.{Stepped}
 use Rattle.model.specs.Settings.{accepts}
 use Rattle.model.specs.Open.{tuned}
 use Rattle.model.specs.Sending.{Sending, idle, then, level, count_of, packet_of, raised, high_every, rx_tx_every, general_every, send, send_high, send_rx_tx, send_general, high_if_due, rx_tx_if_due, general_if_due, keepalive, applied, stepped, tick, due_packets, stop_packets}
-use Rattle.model.specs.Timely.{Turn, turned, ticking, is_step, high_due, rx_tx_due, general_due}
+use Rattle.model.specs.Timely.{turned, ticking}
 use Rattle.model.specs.Parts.{with_high_priority, with_rx_tx_specific, with_general, with_clocks, with_attenuator}
 use Rattle.model.specs.declared.session.Attenuation.{Attenuation}
 use Rattle.model.specs.declared.session.Attenuation.TheVariants.{Off, On}
 use Rattle.model.specs.declared.session.Attenuator.{Attenuator}
-use Rattle.model.specs.declared.session.Clocks.{Clocks}
 use Rattle.model.specs.declared.session.Common.{Common}
 use Rattle.model.specs.declared.session.Tuning.{Tuning}
 use Rattle.model.specs.declared.settings.Settings.{Settings}

@@ -1,16 +1,14 @@
 -- A stream that the practice radio sends falls under demand 3, and what is handed out are the given numbers over 2^23. Assumes nothing.
-use Prim.Native.Nat.{ℕ, ◌+◌, ◌-◌, ◌^◌, ◌≤◌, ◌<◌}
-use mathlib.Core.Path.{◌≡◌, refl, sym, ap, ◌∙◌, subst}
+use Prim.Native.Nat.{ℕ, ◌+◌, ◌-◌, ◌^◌, ◌<◌}
+use mathlib.Core.Path.{◌≡◌, refl, sym, ap, ◌∙◌}
 use mathlib.Core.Bool.{Bool, true, false, not, cond}
 use mathlib.Core.List.{List, [], ◌∷◌, ◌++◌, map}
 use native.Mathlib.Omega.{arith}
-use lib.Dec.{T}
 use lib.ListN.{length, get_or}
 use lib.IntN.{ℤ}
 use lib.Ieee.{Float}
 use borrow.Author.Tests.{eq-eqb, le-ltb}
 use Rattle.base.specs.Each.{Each}
-use Rattle.base.specs.Pick.{pick}
 use Rattle.base.specs.Told.{Told, gives, refused}
 use Rattle.base.proofs.Picks.{pick-t, pick-f, pick-either}
 use Rattle.octets.specs.Number.{be_at}
@@ -18,18 +16,17 @@ use Rattle.iq.specs.Iq as Iq
 use Rattle.iq.specs.Iq.{header_told}
 use Rattle.iq.proofs.Headers.{given-count}
 use Rattle.model.specs.Sample.{pairs}
-use Rattle.model.specs.Settings.{accepts}
 use Rattle.model.specs.Routing.{Routed, iq, status, ignored, malformed, by_header, by_offset, routed}
-use Rattle.model.specs.Host.{Incoming, Call, Begin, Pass, Arrival, Take, Close, TakeMissing, TakeDiscontinuity, TakeStalled, Reply, trace, final}
+use Rattle.model.specs.Host.{Incoming, Call, Begin, Pass, Arrival, Take, Close, TakeMissing, TakeDiscontinuity, TakeStalled, Reply, trace}
 use Rattle.model.specs.Answer.{tells}
 use Rattle.model.specs.Session.{opened_with, session}
 use Rattle.model.specs.declared.sender.Sender.{Sender}
 use Rattle.model.specs.declared.sender.Sender.TheVariants.{V4, V6}
 use Rattle.model.specs.declared.settings.Settings.{Settings}
 use Rattle.account.specs.Whole.{count_of}
-use Rattle.account.specs.Book.{News, Quiet, Began, Took, Came, brought, news_of, news, Book, blank, noted}
-use Rattle.account.specs.Ledger.{Sent, calls_of, Line, line_of, paired, Entry, entry, ledger, late_entry, accepted_in, samples_of, all_handed_out}
-use Rattle.account.specs.Demand3.{Lies, Agrees}
+use Rattle.account.specs.Book.{News, Quiet, Began, Took, Came, brought, news, Book, blank, noted}
+use Rattle.account.specs.Ledger.{Sent, calls_of, line_of, paired, Entry, entry, ledger, late_entry, accepted_in, samples_of}
+use Rattle.account.specs.Demand3.{Lies}
 use Rattle.account.proofs.Numbers.{count_small}
 use Rattle.account.proofs.Demand3.{demand3}
 use Rattle.radio_packets.specs.Iq.{is_pairs, iq_datagram}

@@ -1,8 +1,8 @@
 -- Close: two packets, from the parts that the code makes of them. Assumes nothing.
-use Prim.Native.Nat.{ℕ, ◌-◌}
+use Prim.Native.Nat.{ℕ}
 use mathlib.Core.Path.{◌≡◌, refl, ap}
 use mathlib.Core.Bool.{true}
-use mathlib.Core.List.{List, []}
+use mathlib.Core.List.{List}
 use Rattle.octets.specs.Written.{written}
 use Rattle.model.specs.Answer.{done, closed}
 use Rattle.model.specs.Sending.{stop_packets}
