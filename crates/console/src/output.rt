@@ -61,7 +61,9 @@ pub fn flush(out: &mut Output, at: usize) -> usize
 }
 
 // Writes the first `at` octets as the last ones; whether they are written.
-pub fn finish(out: &mut Output, at: usize) -> bool {
+pub fn finish(out: &mut Output, at: usize) -> bool
+    ensures { out.new.room ≡ out.old.room }
+{
     flush(out, at) <= ROOM
 }
 

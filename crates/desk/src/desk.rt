@@ -94,7 +94,9 @@ pub fn stopped(d: Desk, out: &mut Output, e: Expected, line: &[u8]) -> Desk
 }
 
 // A read may wait: what is answered is written first, so that whoever writes the list has its answers.
-pub fn flushed(d: Desk, out: &mut Output) -> Desk {
+pub fn flushed(d: Desk, out: &mut Output) -> Desk
+    ensures { out.new.room ≡ out.old.room }
+{
     let mut next = d;
     next.out = flush(out, d.out);
     next

@@ -1,4 +1,6 @@
 // What the program holds between two lines, beside the settings, the calls gathered and the input.
+ghost use Rattle.std.specs.Prelude.{◌≡◌};
+
 use batch::list::{List, none};
 use console::output::{Output, flush};
 use console::pattern::filled;
@@ -94,6 +96,8 @@ pub(crate) fn too_long(d: Desk, out: &mut Output) -> Desk {
 }
 
 // A read may wait: what is answered is written first.
-pub(crate) fn flushed(d: Desk, out: &mut Output) -> Desk {
+pub(crate) fn flushed(d: Desk, out: &mut Output) -> Desk
+    ensures { out.new.room ≡ out.old.room }
+{
     written(d, flush(out, d.out))
 }
