@@ -9,7 +9,6 @@ Each change is made in a copy of the repository, its code too. It is shown by
 A change that neither shows is told, and the run fails. Of the repository as it is nothing may be shown.
 """
 import os
-import platform
 import re
 import shutil
 import subprocess
@@ -20,8 +19,6 @@ from pathlib import Path
 HERE = Path(__file__).resolve().parent
 TOP = HERE.parent
 RT = shutil.which('rt') or os.path.join(os.environ.get('RATTLE_HOME', ''), 'bin/rt')
-KIT = Path(os.environ.get('RATTLE_HOME') or Path(RT).resolve().parent.parent)
-OWN = KIT / 'on' / platform.machine()
 
 
 def changes():
@@ -58,29 +55,29 @@ def restored(work, edits):
 
 # Proofs.
 
-ERROR = re.compile(r'crates/(\w+)/(\w+)/([^:]+)\.(?:antt|rt):\d+:\d+: error\S* (?:`([^`]+)`)?')
+# rt names the crate that it turns to, and then what it says of a file of that crate.
+CRATE = re.compile(r'rt: chose --jobs \d+ for (\w+)')
+ERROR = re.compile(r'\./(\w+)/([^:]+)\.(?:antt|rt):\d+:\d+: error\S* (?:`([^`]+)`)?')
 
 
 def proof(work):
     """The proof that is refused first, or None."""
-    came = subprocess.run([RT, 'check', 'account'], cwd=work, capture_output=True, text=True)
+    came = subprocess.run([RT, 'check'], cwd=work / 'crates/account', stdout=subprocess.PIPE, stderr=subprocess.STDOUT, text=True)
     if came.returncode == 0:
         return None
-    found = ERROR.search(came.stdout + came.stderr)
-    if not found or found.group(2) != 'proofs':
-        raise Broken(found.group(0) if found else first(came.stdout + came.stderr))
-    crate, _, file, name = found.groups()
-    return f'{crate} {file} {name or ""}'.strip()
+    crate = 'account'
+    for line in came.stdout.splitlines():
+        crate = (CRATE.match(line) or [0, crate])[1]
+        found = ERROR.match(line)
+        if found:
+            folder, file, name = found.groups()
+            if folder != 'proofs':
+                raise Broken(line)
+            return f'{crate} {file} {name or ""}'.strip()
+    raise Broken(first(came.stdout))
 
 
 # Lists.
-
-def imports(work):
-    for line in (work / 'crates.txt').read_text().splitlines():
-        if re.match(r'\w+:', line):
-            name, used = line.split(':')
-            yield name, used.split()
-
 
 def lists():
     """Each list's name, its calls and its answers."""
@@ -91,43 +88,23 @@ def lists():
     yield 'refusals', ''.join(f'{call}\n' for call, _ in split if call), ''.join(f'{answer}\n' for _, answer in split)
 
 
-def compiled(work):
-    """The words by which the toolchain compiles `calls` without proof and runs it, as `rt try` does. `rt try` lets a library name
-    every other; here some have modules of a library's name, so each is given those that crates.txt names."""
-    words = [OWN / 'bin/rattle-cases', '--toolchain', OWN / 'toolchain', '--link', KIT / 'lib/libos_c.a', '--stdin', work / 'stdin',
-             '--stdout', work / 'stdout', work / 'crates/calls/src/main.rt', '--crate-name', 'calls']
-    known = dict(imports(work))
-    for name, used in known.items():
-        if name in known['calls']:
-            words += ['--lib', f'{name}:{",".join(["std", *used])}={work}/crates/{name}/src/lib.rt']
-    for name in ['std', *(n for n in known['calls'] if n not in known)]:
-        words += ['--lib', f'{name}={KIT}/libs/{name}/src/lib.rt']
-    return words
-
-
 def answered(work):
-    """The first list that is answered otherwise, or None."""
-    came = subprocess.run(compiled(work), capture_output=True, text=True, errors='replace')
-    if came.returncode == 0:
-        return None
-    found = re.search(r'on standard output, at byte (\d+)', came.stdout + came.stderr)
-    if not found:
-        raise Broken(first(came.stdout + came.stderr))
-    at = int(found.group(1))
-    for name, _, answers in lists():
-        at -= len(answers)
-        if at < 0:
-            return f'lists/{name}'
-    return 'lists/refusals'
+    """The first list that `calls`, compiled without proof, answers otherwise, or None."""
+    came = subprocess.run([RT, 'try', '--cases', work / 'lists'], cwd=work / 'crates/calls', stdout=subprocess.PIPE, stderr=subprocess.STDOUT,
+                          text=True, errors='replace')
+    ran = re.findall(r'^case=(\S+) run=(\S+) (.*)$', came.stdout, re.M)
+    if len(ran) != sum(1 for _ in lists()):
+        raise Broken(first(came.stdout))
+    return next((f'lists/{name}' for name, end, more in ran if end != 'ended' or 'output=differs' in more), None)
 
 
 def copied(work):
-    for name in ['crates', 'target/rlib', 'target/stamp']:
-        if (TOP / name).exists():
-            shutil.copytree(TOP / name, work / name)
+    shutil.copytree(TOP / 'crates', work / 'crates', ignore=shutil.ignore_patterns('out', 'must-fail'))
     shutil.copy(TOP / 'crates.txt', work)
-    for name, of in [('stdin', 1), ('stdout', 2)]:
-        (work / name).write_text(''.join(part[of] for part in lists()))
+    (work / 'lists').mkdir()
+    for name, calls, answers in lists():
+        (work / 'lists' / name).write_text(calls)
+        (work / 'lists' / f'{name}.stdout').write_text(answers)
 
 
 def shown(work, edits):
