@@ -39,7 +39,7 @@ returns-then-packets-lt-ARRIVAL_LEN c = let a = c.args in
     (was c.not_reading.ensures c.if-not_reading.false) (le-ltb _ _ c.if-reading-s.false) (was c.waits.ensures c.if-waits.false) c.if-later-reading.false c.if-waiting-gt-MAX_BUFFERED_DATAGRAMS.false (omega (arith, c.if-packets-lt-ARRIVAL_LEN.true)))
 
 pub arrived-requires : goal.arrived-requires
-arrived-requires c = c.if-packets-lt-ARRIVAL_LEN.false
+arrived-requires c = omega arith
 
 pub returns : goal.returns
 returns c = let a = c.args in
