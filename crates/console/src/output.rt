@@ -1,6 +1,6 @@
 // What the program writes, gathered in a buffer and written out where it is full. A write that fails is told once, and nothing is
 // written after it.
-ghost use Rattle.std.specs.Prelude.{◌+◌, ◌≤◌, ◌≡◌, length};
+ghost use Rattle.std.specs.Prelude.{◌+◌, ◌≤◌, ◌≡◌, length, replicate};
 ghost use Rattle.std.proofs.Math.Seq.{paste};
 ghost use Rattle.console.specs.Output.{Flushed, Puts, PutsNumber};
 
@@ -21,7 +21,9 @@ pub struct Output {
 }
 
 // Nothing is gathered.
-pub fn gathered(to: Stdout, faults: Stderr) -> Output {
+pub fn gathered(to: Stdout, faults: Stderr) -> Output
+    ensures { result.room ≡ replicate 65536 0 }
+{
     Output {
         room: [0u8; ROOM],
         to,

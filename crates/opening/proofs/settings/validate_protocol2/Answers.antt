@@ -1,17 +1,33 @@
 -- `opening::settings::validate_protocol2` meets its contract: the rows in order. Assumes nothing.
 use Prim.Native.Nat.{ℕ}
-use mathlib.Core.Path.{sym, ap, ◌∙◌}
-use mathlib.Core.Bool.{not}
+use mathlib.Core.Path.{◌≡◌, sym, ap, ◌∙◌}
+use mathlib.Core.Bool.{Bool, true, not}
 use mathlib.Core.List.{[], ◌∷◌}
 use native.Mathlib.Omega.{arith}
 use Rattle.base.specs.Told.{gives}
 use Rattle.base.proofs.Picks.{pick-t}
 use Rattle.base.proofs.Tests.{was}
 use borrow.Author.Tests.{ne_eqb}
-use Rattle.tuning.specs.Rate.{rate_answer}
+use lib.Ieee.{Float}
+use Rattle.tuning.specs.Rate.{is_rate, khz_of, rate_told, rate_answer}
+use Rattle.tuning.specs.Centre.{whole_centre, below_nyquist}
+use Rattle.tuning.specs.declared.rate.RateAnswer.{RateAnswer}
+use Rattle.tuning.specs.declared.rate.RateAnswer.TheVariants.{Khz}
+use Rattle.model.specs.Settings.{Tunable}
+use Rattle.model.specs.declared.settings.Settings.{Settings}
 use Rattle.tuning.proofs.Rates.{given-khz, refused-rate}
 use Rattle.model.proofs.Rows.{one, past, row-4, row-19, row-6, plain-accepted}
 use Rattle.opening.proofs.settings.validate_protocol2.Goals as goal
+
+-- what the rate is, where it gave its kHz
+rated : (x : Float) (khz : ℕ) (r : RateAnswer) → r ≡ Khz khz → rate_answer r ≡ rate_told x → (is_rate x ≡ true) × (khz ≡ khz_of x)
+rated x khz r e h = given-khz x khz (was (ap rate_answer e) h)
+
+-- rows 1 to 5 leave the settings
+tunable : (s : Settings) (khz : ℕ) (r : RateAnswer) (whole low : Bool) → s.ddc_count ≡ 1 → s.center_count ≡ 1 → r ≡ Khz khz → rate_answer r ≡ rate_told s.sample_rate_hz
+    → whole ≡ whole_centre s.center_freq_hz → whole ≡ true → low ≡ below_nyquist s.center_freq_hz → low ≡ true → Tunable s
+tunable s khz r whole low one two e h w wt b bt =
+    record { receivers = one; centres = two; rate = (rated s.sample_rate_hz khz r e h).0; whole = was w wt; below = was b bt }
 
 pub returns-then-s-ne1 : goal.returns-then-s-ne1
 returns-then-s-ne1 c = sym (past c.args.s 0 tt ∙ pick-t _ _ _ (ap not (ne_eqb _ 1 c.if-s-ne1.true)))
@@ -25,46 +41,25 @@ returns-in_default c =
     sym (past c.args.s 2 (one c.if-s-ne1.false, (one c.if-s-ne1-2.false, tt)) ∙ pick-t _ _ _ (ap not unrated))
 
 pub returns-then-not-whole_centre : goal.returns-then-not-whole_centre
-returns-then-not-whole_centre c = sym (row-4 c.args.s c.if-s-ne1.false c.if-s-ne1-2.false ((given-khz _ _ (was (ap rate_answer c.in-Khz.is) c.rate_khz-rate.ensures))).0 (was c.whole_centre.ensures c.if-not-whole_centre.true))
+returns-then-not-whole_centre c = sym (row-4 c.args.s c.if-s-ne1.false c.if-s-ne1-2.false (rated _ _ _ c.in-Khz.is c.rate_khz-rate.ensures).0 (was c.whole_centre.ensures c.if-not-whole_centre.true))
 
 pub returns-then-not-below_nyquist : goal.returns-then-not-below_nyquist
 returns-then-not-below_nyquist c =
     let whole = was c.whole_centre.ensures c.if-not-whole_centre.false in
     let high = was c.below_nyquist.ensures c.if-not-below_nyquist.true in
     sym
-    (past c.args.s 4 (one c.if-s-ne1.false, (one c.if-s-ne1-2.false, (ap not ((given-khz _ _ (was (ap rate_answer c.in-Khz.is) c.rate_khz-rate.ensures))).0, (ap not whole, tt))))
+    (past c.args.s 4 (one c.if-s-ne1.false, (one c.if-s-ne1-2.false, (ap not (rated _ _ _ c.in-Khz.is c.rate_khz-rate.ensures).0, (ap not whole, tt))))
     ∙ pick-t _ _ _ (ap not high))
 
 pub returns-then-s-eq0 : goal.returns-then-s-eq0
-returns-then-s-eq0 c = sym (row-19 c.args.s ((record {
-  receivers = c.if-s-ne1.false;
-  centres = c.if-s-ne1-2.false;
-  rate = ((given-khz _ _ (was (ap rate_answer c.in-Khz.is) c.rate_khz-rate.ensures))).0;
-  whole = was c.whole_centre.ensures c.if-not-whole_centre.false;
-  below = was c.below_nyquist.ensures c.if-not-below_nyquist.false;
-})) c.if-s-eq0.true)
+returns-then-s-eq0 c = sym (row-19 c.args.s (tunable c.args.s _ _ _ _ c.if-s-ne1.false c.if-s-ne1-2.false c.in-Khz.is c.rate_khz-rate.ensures c.whole_centre.ensures c.if-not-whole_centre.false c.below_nyquist.ensures c.if-not-below_nyquist.false) c.if-s-eq0.true)
 
 pub returns-then-s-gt-MAX_PORT : goal.returns-then-s-gt-MAX_PORT
-returns-then-s-gt-MAX_PORT c = sym (row-6 c.args.s ((record {
-  receivers = c.if-s-ne1.false;
-  centres = c.if-s-ne1-2.false;
-  rate = ((given-khz _ _ (was (ap rate_answer c.in-Khz.is) c.rate_khz-rate.ensures))).0;
-  whole = was c.whole_centre.ensures c.if-not-whole_centre.false;
-  below = was c.below_nyquist.ensures c.if-not-below_nyquist.false;
-})) c.if-s-gt-MAX_PORT.true)
+returns-then-s-gt-MAX_PORT c = sym (row-6 c.args.s (tunable c.args.s _ _ _ _ c.if-s-ne1.false c.if-s-ne1-2.false c.in-Khz.is c.rate_khz-rate.ensures c.whole_centre.ensures c.if-not-whole_centre.false c.below_nyquist.ensures c.if-not-below_nyquist.false) c.if-s-gt-MAX_PORT.true)
 
 pub returns : goal.returns
 returns c =
     let set = c.if-s-eq0.false in
-    ap (λ (khz : ℕ). gives (khz ∷ [])) ((given-khz _ _ (was (ap rate_answer c.in-Khz.is) c.rate_khz-rate.ensures))).1
-    ∙ sym (plain-accepted c.args.s (record {
-      tunable = (record {
-        receivers = c.if-s-ne1.false;
-        centres = c.if-s-ne1-2.false;
-        rate = ((given-khz _ _ (was (ap rate_answer c.in-Khz.is) c.rate_khz-rate.ensures))).0;
-        whole = was c.whole_centre.ensures c.if-not-whole_centre.false;
-        below = was c.below_nyquist.ensures c.if-not-below_nyquist.false;
-      });
-      lowest = omega arith;
-      highest = c.if-s-gt-MAX_PORT.false;
-    }))
+    let t = tunable c.args.s _ _ _ _ c.if-s-ne1.false c.if-s-ne1-2.false c.in-Khz.is c.rate_khz-rate.ensures c.whole_centre.ensures c.if-not-whole_centre.false c.below_nyquist.ensures c.if-not-below_nyquist.false in
+    ap (λ (khz : ℕ). gives (khz ∷ [])) (rated _ _ _ c.in-Khz.is c.rate_khz-rate.ensures).1
+    ∙ sym (plain-accepted c.args.s (record { tunable = t; lowest = omega arith; highest = c.if-s-gt-MAX_PORT.false }))
