@@ -1,9 +1,10 @@
 -- An arrival: the session tells what the book judges, and the two go on saying the same. Assumes nothing.
+use Rattle.std.specs.Prelude.{Option, Some, None}
+use Rattle.attenuator.specs.declared.Controller.{Controller}
 use Prim.Native.Nat.{ℕ, ◌+◌, ◌-◌, ◌<◌}
 use mathlib.Core.Path.{◌≡◌, refl, sym, ◌∙◌, ap, subst}
 use mathlib.Core.Bool.{Bool, true, false}
 use mathlib.Core.List.{List, [], ◌∷◌, append-nil}
-use mathlib.Core.Option.{Option, some, none}
 use native.Mathlib.Omega.{arith}
 use lib.IntN.{ℤ, pos, negsuc, ◌-ℤ◌}
 use borrow.Author.Tests.{ltb-false}
@@ -14,8 +15,6 @@ use Rattle.sequence.specs.declared.SeqEvent.{SeqEvent}
 use Rattle.sequence.specs.declared.SeqEvent.TheVariants.{InOrder, Gap, Stale, Restart}
 use Rattle.model.specs.Answer.{Answer, done, heard, tells}
 use Rattle.model.specs.Answer as Answer
-use Rattle.model.specs.declared.session.Attenuation.{Attenuation}
-use Rattle.model.specs.declared.session.Attenuation.TheVariants.{Off, On}
 use Rattle.model.specs.declared.session.Common.{Common}
 use Rattle.model.specs.declared.session.Session.{Session}
 use Rattle.model.specs.Rules.{used, capped, missing_of, is_stale}
@@ -47,7 +46,7 @@ not-ahead : (d : ℤ) → 0 < behind d → ahead d ≡ 0
 not-ahead (pos d) h = absurd (omega arith)
 not-ahead (negsuc d) h = refl
 
-missing-of : (e n : ℤ) (restart : ℕ) (ev : SeqEvent) (f b : Bool) → Says (n -ℤ e) ev f b → missing_of ev restart ≡ missing_in (some e) f restart n
+missing-of : (e n : ℤ) (restart : ℕ) (ev : SeqEvent) (f b : Bool) → Says (n -ℤ e) ev f b → missing_of ev restart ≡ missing_in (Some e) f restart n
 unfolding missing_of
 missing-of e n restart InOrder f b s = rw (s.1, s.0) refl
 missing-of e n restart (Gap k) f b s = rw (s.1, s.0.0) refl
@@ -57,8 +56,8 @@ missing-of e n restart Restart f b s = rw s.1 refl
 -- what the session tells missing is what the book says
 missing-in : (o : Option ℤ) (lim run : ℕ) (n : ℤ) (restart : ℕ) → missing_of (verdict_in o lim run n) restart ≡ missing_in o (fit_in o lim run n) restart n
 unfolding missing_of
-missing-in none lim run n restart = refl
-missing-in (some e) lim run n restart = missing-of e n restart (verdict lim run e n) (fits lim run e n) (fits_below run e n) (says lim run e n)
+missing-in None lim run n restart = refl
+missing-in (Some e) lim run n restart = missing-of e n restart (verdict lim run e n) (fits lim run e n) (fits_below run e n) (says lim run e n)
 
 lost-of : (ev : SeqEvent) (restart : ℕ) → Lost ev (missing_of ev restart)
 unfolding missing_of
@@ -69,8 +68,8 @@ lost-of Restart restart = tt
 
 -- one more stale
 one_more : (o : Option ℤ) (run : ℕ) → ◌≡◌ {A = Rattle.sequence.specs.declared.SeqTracker.SeqTracker} (record { expected = (sent_as o run).expected; stale_run = (sent_as o run).stale_run + 1 }) (sent_as o (run + 1))
-one_more none run = refl
-one_more (some e) run = refl
+one_more None run = refl
+one_more (Some e) run = refl
 
 -- ---- a valid I/Q datagram
 
@@ -242,12 +241,12 @@ module _ (s : Settings) (b : Book) (st : State) (n : ℤ) (h : Same s b st) (i :
     ignored-keeps : Mute (without_packets (done Answer.ignored) d later.session)
     ignored-keeps = still s b st n h (Arrival i d) _ (quiet false) refl refl refl h.settings refl refl refl refl refl refl
 
-    status-keeps : (a : Attenuation) (bits : Told) → Mute (overload later.session i d a bits)
+    status-keeps : (a : Option Controller) (bits : Told) → Mute (overload later.session i d a bits)
     unfolding overload
-    status-keeps Off bits = still s b st n h (Arrival i d) _ (quiet false) refl refl refl h.settings refl refl refl refl refl refl
-    status-keeps (On controller) (gives []) = still s b st n h (Arrival i d) _ (quiet false) refl refl refl h.settings refl refl refl refl refl refl
-    status-keeps (On controller) (refused k vs) = still s b st n h (Arrival i d) _ (quiet false) refl refl refl h.settings refl refl refl refl refl refl
-    status-keeps (On controller) (gives (bits ∷ vs)) =
+    status-keeps None bits = still s b st n h (Arrival i d) _ (quiet false) refl refl refl h.settings refl refl refl refl refl refl
+    status-keeps (Some controller) (gives []) = still s b st n h (Arrival i d) _ (quiet false) refl refl refl h.settings refl refl refl refl refl refl
+    status-keeps (Some controller) (refused k vs) = still s b st n h (Arrival i d) _ (quiet false) refl refl refl h.settings refl refl refl refl refl refl
+    status-keeps (Some controller) (gives (bits ∷ vs)) =
         still s b st n h (Arrival i d) _ (quiet false) refl refl refl (ap (λ (c : Common). c.settings) (stepped-steady _ _ _).kept ∙ h.settings) refl refl refl refl refl refl
 
     malformed-keeps : Mute (heard_malformed later.session d)

@@ -1,9 +1,9 @@
 -- The demand's premise can always be met: every list of calls has whole numbers that lie as the demand says. Assumes nothing.
+use Rattle.std.specs.Prelude.{Option, Some, None}
 use Prim.Native.Nat.{ℕ, ◌-◌, ◌<◌, ◌^◌}
 use mathlib.Core.Path.{◌≡◌, refl, ap, ◌∙◌}
 use mathlib.Core.Bool.{Bool, true, false}
 use mathlib.Core.List.{List, [], ◌∷◌, ◌++◌}
-use mathlib.Core.Option.{Option, some, none}
 use native.Mathlib.Omega.{arith}
 use native.Mathlib.Decide.{dec_lt}
 use lib.Dec.{ltb}
@@ -35,14 +35,14 @@ near : ℕ → ℤ
 near d = pick (ltb d (2 ^ 31)) (pos d) (negsuc (2 ^ 32 - 1 - d))
 
 abbrev choose : Option ℤ → ℕ → ℤ
-choose none c = pos c
-choose (some e) c = e +ℤ near (less c (count_of e))
+choose None c = pos c
+choose (Some e) c = e +ℤ near (less c (count_of e))
 
 taken_back : (e d : ℤ) → e +ℤ d -ℤ e ≡ d
 taken_back e d = ap (λ (z : ℤ). z -ℤ e) (+ℤ_comm e d) ∙ +ℤ-neg_ℤ_cancel d e
 
 -- it has the count, and lies near
-chosen : (e : ℤ) (c : ℕ) → c < 2 ^ 32 → (count_of (choose (some e) c) ≡ c) × Near e (choose (some e) c)
+chosen : (e : ℤ) (c : ℕ) → c < 2 ^ 32 → (count_of (choose (Some e) c) ≡ c) × Near e (choose (Some e) c)
 unfolding near pick less
 chosen e c small =
     elim (dec_lt (less c (count_of e)) (2 ^ 31)) [
@@ -116,8 +116,8 @@ count-small-in s TakeStalled false h = omega arith
 -- ---- the number chosen lies right
 
 lies_at : (o : Option ℤ) (c : ℕ) → c < 2 ^ 32 → (count_of (choose o c) ≡ c) × NearIn o (choose o c)
-lies_at none c small = (omega arith, tt)
-lies_at (some e) c small = chosen e c small
+lies_at None c small = (omega arith, tt)
+lies_at (Some e) c small = chosen e c small
 
 each_append : (xs ys : List Entry) → Each Lies xs → Each Lies ys → Each Lies (xs ++ ys)
 each_append [] ys h k = k

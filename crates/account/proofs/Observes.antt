@@ -1,8 +1,8 @@
 -- The tracker after an arrival, by what the arrival is told. Assumes nothing.
+use Rattle.std.specs.Prelude.{Option, Some, None}
 use Prim.Native.Nat.{ℕ, ◌+◌}
 use mathlib.Core.Path.{◌≡◌, refl, sym, ap, ◌∙◌}
 use mathlib.Core.Bool.{true, false}
-use mathlib.Core.Option.{Option, some, none}
 use native.Mathlib.Omega.{arith}
 use lib.Dec.{leb}
 use lib.IntN.{ℤ, pos, ◌+ℤ◌}
@@ -11,7 +11,6 @@ use Rattle.sequence.specs.Tracker.{after, past, less, meant, meaning, moved, obs
 use Rattle.sequence.specs.declared.SeqEvent.{SeqEvent}
 use Rattle.sequence.specs.declared.SeqEvent.TheVariants.{InOrder, Gap, Stale, Restart}
 use Rattle.sequence.specs.declared.SeqTracker.{SeqTracker}
-use Rattle.sequence.specs.declared.Expected.TheVariants.{Next}
 use Rattle.model.specs.Rules.{capped, is_stale}
 use Rattle.account.specs.Whole.{count_of}
 use Rattle.account.specs.Demand3.{NearIn}
@@ -20,9 +19,9 @@ use Rattle.account.proofs.Numbers.{count-on, verdict-told}
 use Rattle.account.proofs.Same.{sent_as}
 
 -- the tracker past n is the book's, expecting n + 1
-pub past-sent : (n : ℤ) → past (count_of n) ≡ sent_as (some (n +ℤ pos 1)) 0
+pub past-sent : (n : ℤ) → past (count_of n) ≡ sent_as (Some (n +ℤ pos 1)) 0
 unfolding after
-past-sent n = ap (λ (k : ℕ). record { expected = Next k; stale_run = 0 }) (sym (count-on n 1))
+past-sent n = ap (λ (k : ℕ). record { expected = Some k; stale_run = 0 }) (sym (count-on n 1))
 
 moved-event : (t : SeqTracker) (seq : ℕ) (ev : SeqEvent) → (moved t seq ev).event ≡ ev
 moved-event t seq InOrder = refl
@@ -33,9 +32,9 @@ moved-event t seq Restart = refl
 -- the tracker, and the limit, tell the verdict
 pub tells-in : (o : Option ℤ) (lim run : ℕ) (n : ℤ) → NearIn o n → capped lim (observed (sent_as o run) (count_of n)).event ≡ verdict_in o lim run n
 unfolding observed capped
-tells-in none lim run n near = refl
-tells-in (some e) lim run n near =
-    ap (capped lim) (moved-event (sent_as (some e) run) (count_of n) (meant (less (count_of n) (count_of e)) run (count_of n)))
+tells-in None lim run n near = refl
+tells-in (Some e) lim run n near =
+    ap (capped lim) (moved-event (sent_as (Some e) run) (count_of n) (meant (less (count_of n) (count_of e)) run (count_of n)))
     ∙ verdict-told lim run e n near
 
 module _ (t : SeqTracker) (lim seq : ℕ) where

@@ -1,15 +1,14 @@
 -- The session and the book say the same of the stream, and every call but an arrival keeps that. Assumes nothing.
+use Rattle.std.specs.Prelude.{Option, Some, None}
 use Prim.Native.Nat.{ℕ, ◌-◌, ◌/◌, min}
 use mathlib.Core.Path.{◌≡◌, refl, sym, ap, ◌∙◌}
 use mathlib.Core.List.{List, [], append-nil}
-use mathlib.Core.Option.{Option, some, none}
 use native.Mathlib.Omega.{arith}
 use lib.ListN.{length}
 use lib.Ieee.{Float}
 use lib.IntN.{ℤ}
 use Rattle.base.proofs.Picks.{pick-either}
 use Rattle.sequence.specs.declared.SeqTracker.{SeqTracker}
-use Rattle.sequence.specs.declared.Expected.TheVariants.{Nothing, Next}
 use Rattle.model.specs.Sample.{Sample, pairs}
 use Rattle.model.specs.Host.{Call, Begin, Pass, Arrival, Take, Close, TakeMissing, TakeDiscontinuity, TakeStalled, Step}
 use Rattle.model.specs.State.{State, left, waiting_in, at_reading, keeping}
@@ -33,8 +32,8 @@ use Rattle.account.proofs.Simulate
 
 -- the tracker that expects the book's number
 abbrev pub sent_as : Option ℤ → ℕ → SeqTracker
-sent_as none run = record { expected = Nothing; stale_run = run }
-sent_as (some e) run = record { expected = Next (count_of e); stale_run = run }
+sent_as None run = record { expected = None; stale_run = run }
+sent_as (Some e) run = record { expected = Some (count_of e); stale_run = run }
 
 abbrev pub waiting_of : State → List Sample
 waiting_of st = waiting_in st.session.receiver st.samples
@@ -45,7 +44,7 @@ module _ (s : Settings) where
     pub tracker : st.session.receiver.tracker ≡ sent_as b.expected b.run
     pub accepted_at : st.session.receiver.last_accepted_iq ≡ b.accepted_at
     pub taken : st.session.receiver.read_returned ≡ b.taken
-    pub window : st.session.receiver.parked.window ≡ b.window
+    pub window : st.session.receiver.parked ≡ b.window
     pub size : length st.samples ≡ 476
 
   abbrev pub Kept : Book → State → Call → ℤ → Step State → Type 0
@@ -55,14 +54,14 @@ module _ (s : Settings) where
     -- a call that the book does not see: it tells nothing and hands nothing out, and what it leaves expects, holds and waits for the same
     pub still : (c : Call) (x : Step State) →
         news s c (tells x.reply.answer).refusal ≡ Quiet →
-        (tells x.reply.answer).event ≡ none →
+        (tells x.reply.answer).event ≡ None →
         (tells x.reply.answer).missing ≡ 0 →
         gave c x.reply ≡ [] →
         x.state.session.common.settings ≡ s →
         x.state.session.receiver.tracker ≡ st.session.receiver.tracker →
         x.state.session.receiver.last_accepted_iq ≡ st.session.receiver.last_accepted_iq →
         x.state.session.receiver.read_returned ≡ st.session.receiver.read_returned →
-        x.state.session.receiver.parked.window ≡ st.session.receiver.parked.window →
+        x.state.session.receiver.parked ≡ st.session.receiver.parked →
         x.state.session.receiver.queue_pos ≡ st.session.receiver.queue_pos →
         x.state.samples ≡ st.samples →
         Kept b st c n x

@@ -1,9 +1,9 @@
 -- A host whose every call keeps a relation to the book, and tells and hands out right, meets demand 3. Assumes nothing.
+use Rattle.std.specs.Prelude.{None}
 use Prim.Native.Nat.{ℕ}
 use mathlib.Core.Path.{◌≡◌, refl, sym, ◌∙◌, ap}
 use mathlib.Core.Bool.{Bool, true, false, cond}
 use mathlib.Core.List.{List, [], ◌∷◌, ◌++◌, append-nil, append_assoc}
-use mathlib.Core.Option.{none}
 use lib.IntN.{ℤ}
 use Rattle.model.specs.Sample.{Sample}
 use Rattle.model.specs.Host.{Call, Step, Host, trace, final}
@@ -123,7 +123,7 @@ module _ (s : Settings) where
           let w : Whole h P (blank now) (h.opened s now) calls = whole (blank now) (h.opened s now) calls at_first lies in
           let entries : List Entry = ledger s (blank now) (lines h (h.opened s now) calls) in
           record {
-            each = each s none entries w.chain;
+            each = each s None entries w.chain;
             others = others-of mute (blank now) (lines h (h.opened s now) calls) w.also;
             samples = w.flow ∙ ap (λ (l : List Sample). l ++ samples_of (accepted_in entries)) none-waits;
             sums = stretches s entries w.chain;

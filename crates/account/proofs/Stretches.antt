@@ -1,10 +1,10 @@
 -- Of arrivals that are told what the whole numbers say: the sums of each stretch. Assumes nothing.
+use Rattle.std.specs.Prelude.{Option, Some, None}
 use Prim.Native.Nat.{ℕ, ◌+◌, ◌*◌}
 use mathlib.Core.Path.{◌≡◌, refl, sym, ◌∙◌, ap, subst}
 use mathlib.Core.Logic.{◌≢◌, ◌⊎◌, inl, inr}
 use mathlib.Core.Bool.{Bool, true, false, cond}
 use mathlib.Core.List.{List, [], ◌∷◌, ◌++◌, cons-ne-nil}
-use mathlib.Core.Option.{Option, some, none}
 use native.Mathlib.Omega.{arith}
 use lib.ListN.{length, length-append}
 use lib.Dec.{T}
@@ -83,7 +83,7 @@ not_late Stale false b h e = cc
 not_late Restart f b h e = h.1
 
 -- and so is the first
-pub first-in : (x : Entry) → x.book.expected ≡ none → late_entry x ≡ false
+pub first-in : (x : Entry) → x.book.expected ≡ None → late_entry x ≡ false
 first-in x e = rw e refl
 
 module _ (s : Settings) where
@@ -97,7 +97,7 @@ module _ (s : Settings) where
     pub whole : length (samples_in x) ≡ 238
 
   abbrev pub next_of : Entry → Option ℤ
-  next_of x = cond (late_entry x) x.book.expected (some (x.number +ℤ pos 1))
+  next_of x = cond (late_entry x) x.book.expected (Some (x.number +ℤ pos 1))
 
   -- each entry is right, and expects the number after the last accepted one
   abbrev pub Chained : Option ℤ → List Entry → Type 0
@@ -111,23 +111,23 @@ module _ (s : Settings) where
   rules-at : (x : Entry) → Rules (verdict_of x) (fitting s x) (late_entry x)
   rules-at x = rules x.book.expected (limit_in s x.book x.incoming.now) x.book.run x.number
 
-  first_of : (o : Option ℤ) (lim run : ℕ) (n : ℤ) → o ≡ none → verdict_in o lim run n ≡ InOrder
-  first_of none lim run n e = refl
-  first_of (some e) lim run n h = let z : ◌≡◌ {A = ℕ} 0 1 = cc in absurd (omega arith)
+  first_of : (o : Option ℤ) (lim run : ℕ) (n : ℤ) → o ≡ None → verdict_in o lim run n ≡ InOrder
+  first_of None lim run n e = refl
+  first_of (Some e) lim run n h = let z : ◌≡◌ {A = ℕ} 0 1 = cc in absurd (omega arith)
 
   -- what is told so is judged so
-  pub judged-of : (x : Entry) → x.says.event ≡ some (verdict_of x) → Judged s x
+  pub judged-of : (x : Entry) → x.says.event ≡ Some (verdict_of x) → Judged s x
   judged-of x e =
       record {
         restart = rw e (restarts (verdict_of x) (fitting s x) (late_entry x) (rules-at x));
         stale = rw e (stales (verdict_of x) (fitting s x) (late_entry x) (rules-at x));
-        first = λ h. e ∙ ap (λ (v : SeqEvent). some v) (first_of x.book.expected _ _ _ h);
+        first = λ h. e ∙ ap (λ (v : SeqEvent). Some v) (first_of x.book.expected _ _ _ h);
       }
 
   abbrev Going : Entry → Type 0
-  Going x = x.says.event ≢ some Restart
+  Going x = x.says.event ≢ Some Restart
 
-  module _ (h : ℤ) (x : Entry) (ys : List Entry) (e : x.book.expected ≡ some (h +ℤ pos 1)) (r : Right x) (going : Going x) where
+  module _ (h : ℤ) (x : Entry) (ys : List Entry) (e : x.book.expected ≡ Some (h +ℤ pos 1)) (r : Right x) (going : Going x) where
     one-step : (ev : SeqEvent) → Lost ev x.says.missing → Says (x.number -ℤ (h +ℤ pos 1)) ev (fitting s x) (late_entry x) →
         (late_entry x ≡ false → Adds x.number ys) → (late_entry x ≡ true → Adds h ys) → Adds h (x ∷ ys)
     one-step InOrder m s a b = kept h x ys 0 s.2 (past-e h x.number 0 s.0) m r.whole (a s.2)
@@ -135,10 +135,10 @@ module _ (s : Settings) where
     one-step Stale m s a b = skipped h x ys s.2 m (b s.2)
     one-step Restart m s a b = absurd (going (r.told.restart.1 (rw s.1 (λ t. t))))
 
-  pub says_at : (h : ℤ) (x : Entry) → x.book.expected ≡ some (h +ℤ pos 1) → Says (x.number -ℤ (h +ℤ pos 1)) (verdict_of x) (fitting s x) (late_entry x)
+  pub says_at : (h : ℤ) (x : Entry) → x.book.expected ≡ Some (h +ℤ pos 1) → Says (x.number -ℤ (h +ℤ pos 1)) (verdict_of x) (fitting s x) (late_entry x)
   says_at h x e = rw e (says (limit_in s x.book x.incoming.now) x.book.run (h +ℤ pos 1) x.number)
 
-  adds : (h : ℤ) (xs : List Entry) → Chained (some (h +ℤ pos 1)) xs → Each Going xs → Adds h xs
+  adds : (h : ℤ) (xs : List Entry) → Chained (Some (h +ℤ pos 1)) xs → Each Going xs → Adds h xs
   adds h [] c g = (0, tt, sym (+ℤ_idr h), omega arith)
   adds h (x ∷ ys) c g =
       one-step h x ys c.0 c.1 g.0 (verdict_of x) c.1.gone (says_at h x c.0)
@@ -156,27 +156,27 @@ module _ (s : Settings) where
   front o [] ys c = tt
   front o (x ∷ xs) ys c = (c.0, c.1, front (next_of x) xs ys c.2)
 
-  restarted : (x : Entry) → Right x → x.says.event ≡ some Restart → late_entry x ≡ false
+  restarted : (x : Entry) → Right x → x.says.event ≡ Some Restart → late_entry x ≡ false
   restarted x r e = not_late (verdict_of x) (fitting s x) (late_entry x) (rules-at x) (r.told.restart.0 e)
 
   sums : (x : Entry) (xs rest : List Entry) → Right x → late_entry x ≡ false → Chained (next_of x) (xs ++ rest) → Each Going xs → Sums x xs
   sums x xs rest r l c g =
-      let a : Adds x.number xs = adds x.number xs (front (some (x.number +ℤ pos 1)) xs rest (rw l at c)) g in
+      let a : Adds x.number xs = adds x.number xs (front (Some (x.number +ℤ pos 1)) xs rest (rw l at c)) g in
       let e : length (samples_of (x ∷ accepted_in xs)) + missing_told xs ≡ 238 * (a.0 + 1) = simp length-append (omega (arith, a.3, r.whole)) in
       record {
         rising = a.1;
         sum = rw (distance-of x.number (highest x.number (accepted_in xs)) a.0 a.2) (ap pos e);
       }
 
-  starts : (before : List Entry) (x : Entry) (ys : List Entry) → Chained none (before ++ (x ∷ ys)) → (before ≡ []) ⊎ (x.says.event ≡ some Restart) → late_entry x ≡ false
+  starts : (before : List Entry) (x : Entry) (ys : List Entry) → Chained None (before ++ (x ∷ ys)) → (before ≡ []) ⊎ (x.says.event ≡ Some Restart) → late_entry x ≡ false
   starts [] x ys c (inl e) = first-in x c.0
   starts (y ∷ before) x ys c (inl e) = absurd (cons-ne-nil y before e)
-  starts before x ys c (inr e) = let q = past none before (x ∷ ys) c in restarted x q.1.1 e
+  starts before x ys c (inr e) = let q = past None before (x ∷ ys) c in restarted x q.1.1 e
 
-  pub stretches : (entries : List Entry) → Chained none entries → (before : List Entry) (x : Entry) (xs rest : List Entry) → Stretch entries before x xs rest → Sums x xs
+  pub stretches : (entries : List Entry) → Chained None entries → (before : List Entry) (x : Entry) (xs rest : List Entry) → Stretch entries before x xs rest → Sums x xs
   stretches entries c before x xs rest t =
-      let c' : Chained none (before ++ (x ∷ (xs ++ rest))) = subst (λ (l : List Entry). Chained none l) t.0 c in
-      let q = past none before (x ∷ (xs ++ rest)) c' in
+      let c' : Chained None (before ++ (x ∷ (xs ++ rest))) = subst (λ (l : List Entry). Chained None l) t.0 c in
+      let q = past None before (x ∷ (xs ++ rest)) c' in
       sums x xs rest q.1.1 (starts before x (xs ++ rest) c' t.1) q.1.2 t.2
 
   pub each : (o : Option ℤ) (entries : List Entry) → Chained o entries → Each (Judged s) entries

@@ -1,9 +1,9 @@
 -- What the verdict on an arrival says of its number. Assumes nothing.
+use Rattle.std.specs.Prelude.{Option, Some, None}
 use Prim.Native.Nat.{ℕ, ◌<◌}
 use mathlib.Core.Path.{◌≡◌, refl, sym, ap, ◌∙◌}
 use mathlib.Core.Logic.{◌↔◌}
 use mathlib.Core.Bool.{Bool, true, false, ◌&&◌, ◌||◌}
-use mathlib.Core.Option.{Option, some, none}
 use native.Mathlib.Omega.{arith}
 use lib.Dec.{T, leb, ltb, eqb}
 use lib.IntN.{ℤ, pos, negsuc, ◌-ℤ◌}
@@ -93,11 +93,11 @@ rules-of d Stale f b h = (h.1, h.2)
 rules-of d Restart f b h = (h.1, h.2)
 
 pub rules : (o : Option ℤ) (limit run : ℕ) (n : ℤ) → Rules (verdict_in o limit run n) (fit_in o limit run n) (below_in o run n)
-rules none limit run n = (refl, refl)
-rules (some e) limit run n = rules-of (n -ℤ e) (verdict limit run e n) (fits limit run e n) (fits_below run e n) (says limit run e n)
+rules None limit run n = (refl, refl)
+rules (Some e) limit run n = rules-of (n -ℤ e) (verdict limit run e n) (fits limit run e n) (fits_below run e n) (says limit run e n)
 
 -- Restart exactly where it does not fit, Stale exactly where it fits below
-pub restarts : (ev : SeqEvent) (f b : Bool) → Rules ev f b → (some ev ≡ some Restart) ↔ ¬ T f
+pub restarts : (ev : SeqEvent) (f b : Bool) → Rules ev f b → (Some ev ≡ Some Restart) ↔ ¬ T f
 restarts InOrder true b h = (λ e. let z : ◌≡◌ {A = ℕ} 0 1 = cc in absurd (omega arith), λ k. absurd (k tt))
 restarts (Gap k) true b h = (λ e. let z : ◌≡◌ {A = ℕ} 0 1 = cc in absurd (omega arith), λ k. absurd (k tt))
 restarts Stale true b h = (λ e. let z : ◌≡◌ {A = ℕ} 0 1 = cc in absurd (omega arith), λ k. absurd (k tt))
@@ -107,7 +107,7 @@ restarts (Gap k) false b h = let z : ◌≡◌ {A = ℕ} 0 1 = cc in absurd (ome
 restarts Stale false b h = let z : ◌≡◌ {A = ℕ} 0 1 = cc in absurd (omega arith)
 restarts Restart false b h = (λ e t. t, λ k. refl)
 
-pub stales : (ev : SeqEvent) (f b : Bool) → Rules ev f b → (some ev ≡ some Stale) ↔ T b
+pub stales : (ev : SeqEvent) (f b : Bool) → Rules ev f b → (Some ev ≡ Some Stale) ↔ T b
 stales InOrder f false h = (λ e. let z : ◌≡◌ {A = ℕ} 0 1 = cc in absurd (omega arith), λ k. absurd k)
 stales (Gap k) f false h = (λ e. let z : ◌≡◌ {A = ℕ} 0 1 = cc in absurd (omega arith), λ k. absurd k)
 stales Restart f false h = (λ e. let z : ◌≡◌ {A = ℕ} 0 1 = cc in absurd (omega arith), λ k. absurd k)

@@ -1,10 +1,11 @@
 -- Worked cases of what the book makes of numbers and arrivals, by computation: of whole numbers by hand from 01, of arrivals those of
 -- model's Worked, with the Rust's own missing. Assumes nothing.
+use Rattle.std.specs.Prelude.{Option, Some, None}
+use Rattle.model.specs.declared.receiver.Parked.{Parked}
 use Prim.Native.Nat.{ℕ}
 use mathlib.Core.Bool.{Bool, true, false}
 use mathlib.Core.Path.{refl}
 use mathlib.Core.List.{List, [], ◌∷◌}
-use mathlib.Core.Option.{some}
 use lib.IntN.{pos, negsuc}
 use lib.Ieee.{of_int, mul, div, add, sub, round}
 use Rattle.base.specs.Pick.{pick}
@@ -13,10 +14,9 @@ use Rattle.double.specs.Whole.{nat_of, rounded}
 use Rattle.double.specs.Seconds.{seconds_of}
 use Rattle.stream.specs.Elapsed.{plausible, jump_limit, restart_missing, account_time, covered_time}
 use Rattle.sequence.specs.Tracker as Sequence
+use Rattle.model.specs.Edges.{parked}
 use Rattle.model.specs.Rules.{elapsed, capped, datagrams, backlog, uncovered, outage}
 use Rattle.model.specs.Host.{Incoming}
-use Rattle.model.specs.declared.receiver.Window.{Window}
-use Rattle.model.specs.declared.receiver.Window.TheVariants.{Shut, Open}
 use Rattle.model.specs.Lists.{usual, iq_at, iq_with}
 use Rattle.model.proofs.Worked.{mixed}
 use Rattle.account.specs.Whole.{fits, fits_above, fits_below}
@@ -72,23 +72,23 @@ fits-hold = refl
 -- ---- arrivals
 
 -- a book that expects a number since the reading `accepted`, in this window
-abbrev pub book_in : ℕ → ℕ → Window → Book
-book_in next accepted w = record { expected = some (pos next); run = 0; accepted_at = accepted; taken = 0; window = w }
+abbrev pub book_in : ℕ → ℕ → Option Parked → Book
+book_in next accepted w = record { expected = Some (pos next); run = 0; accepted_at = accepted; taken = 0; window = w }
 
-abbrev misses : ℕ → ℕ → Window → Incoming → ℕ → ℕ → Case ℕ
+abbrev misses : ℕ → ℕ → Option Parked → Incoming → ℕ → ℕ → Case ℕ
 misses next accepted w i n is = case (missing usual (book_in next accepted w) i (pos n)) is
 
 abbrev pub arrival_cases : List (Case ℕ)
 arrival_cases =
     -- after a pause of 2 s a gap of 8599, which only the pause allows, and one of 8600
-    misses 7 2000000000 (Open 0 238 8191) (iq_at 2000000000 8606) 8606 2046562
-    ∷ misses 7 2000000000 (Open 0 238 8191) (iq_at 2000000000 8607) 8607 95524
+    misses 7 2000000000 (parked 0 238 8191) (iq_at 2000000000 8606) 8606 2046562
+    ∷ misses 7 2000000000 (parked 0 238 8191) (iq_at 2000000000 8607) 8607 95524
     -- with more accounted for than has passed a restart misses nothing
-    ∷ misses 8608 2000000000 (Open 0 96000 8190) (iq_at 2000000000 17000) 17000 0
+    ∷ misses 8608 2000000000 (parked 0 96000 8190) (iq_at 2000000000 17000) 17000 0
     -- a restart out of a window, with a later reading
-    ∷ misses 6 0 Shut (iq_with 1000000000 3000000000 0 []) 0 47762
+    ∷ misses 6 0 None (iq_with 1000000000 3000000000 0 []) 0 47762
     -- one in a window, of which what waits covers a part
-    ∷ misses 1 1000000000 (Open 3000000000 0 2) (iq_with 4000000000 5000000000 0 mixed) 0 94096
+    ∷ misses 1 1000000000 (parked 3000000000 0 2) (iq_with 4000000000 5000000000 0 mixed) 0 94096
     ∷ []
 
 pub arrivals-hold : Hold arrival_cases

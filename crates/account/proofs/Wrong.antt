@@ -1,8 +1,8 @@
 -- Hosts that demand 3 rules out, each by one list of calls. Assumes nothing.
+use Rattle.std.specs.Prelude.{Some, None}
 use Prim.Native.Nat.{ℕ, ◌+◌, ◌*◌, ◌≤◌, ◌<◌, ◌^◌}
 use mathlib.Core.Path.{◌≡◌, refl, sym, ap, ◌∙◌}
 use mathlib.Core.Logic.{inl}
-use mathlib.Core.Option.{some, none}
 use mathlib.Core.List.{List, [], ◌∷◌, ◌++◌, append-nil}
 use native.Mathlib.Omega.{arith}
 use lib.ListN.{length, take, drop, length-append, replicate}
@@ -76,16 +76,16 @@ doubled l buffer h =
     let once : out ≡ pairs l = sym (append-nil out) ∙ ap (λ (r : List Sample). out ++ r) (sym (none-past 238 l h refl)) ∙ e ∙ append-nil (pairs l) in
     rw (append-nil out, once) (length-append (pairs l) (pairs l) ∙ omega (arith, pairs-count 238 l h))
 
-gap-apart : (k : ℕ) → some (Gap k) ≡ some Restart → ⊥
+gap-apart : (k : ℕ) → Some (Gap k) ≡ Some Restart → ⊥
 gap-apart k e = let z : ◌≡◌ {A = ℕ} 0 1 = cc in omega arith
 
-order-apart : some InOrder ≡ some Restart → ⊥
+order-apart : Some InOrder ≡ Some Restart → ⊥
 order-apart e = let z : ◌≡◌ {A = ℕ} 0 1 = cc in omega arith
 
-told-apart : (v : SeqEvent) → some v ≡ none → ⊥
+told-apart : (v : SeqEvent) → Some v ≡ None → ⊥
 told-apart v e = let z : ◌≡◌ {A = ℕ} 0 1 = cc in omega arith
 
-stale-apart : some Stale ≡ some Restart → ⊥
+stale-apart : Some Stale ≡ Some Restart → ⊥
 stale-apart e = let z : ◌≡◌ {A = ℕ} 0 1 = cc in omega arith
 
 -- numbers 5 and 7: one is missing

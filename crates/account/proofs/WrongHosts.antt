@@ -1,11 +1,10 @@
 -- Hosts that are wrong, each the session but for one thing, and what is claimed of them: trials of demand 3's statement, and of Timely.
+use Rattle.std.specs.Prelude.{Option, Some, None}
 use Prim.Native.Nat.{ℕ, ◌+◌, min}
 use Rattle.octets.specs.Number.{be_at}
 use Rattle.sequence.specs.declared.SeqEvent.{SeqEvent}
 use Rattle.sequence.specs.declared.SeqEvent.TheVariants.{InOrder, Gap, Stale, Restart}
-use Rattle.sequence.specs.declared.Expected.{Expected}
 use Rattle.sequence.specs.declared.SeqTracker.{SeqTracker}
-use Rattle.sequence.specs.declared.Expected.TheVariants.{Nothing, Next}
 use Rattle.sequence.specs.Tracker.{after}
 use Rattle.model.specs.Answer.{Word, begun, ready, soft_stall, hard_stall, sent, ignored, status, malformed, malformed_limit, closed, Answer, refused, done, heard, took, slot, flag}
 use Rattle.model.specs.Host.{Incoming, Call, Begin, Pass, Arrival, Take, Close, TakeMissing, TakeDiscontinuity, TakeStalled, Reply, Step, Host}
@@ -29,7 +28,7 @@ abbrev pub answering : Answer → Reply → Reply
 answering a r = record { answer = a; streams = r.streams; packets = r.packets; buffer = r.buffer }
 
 -- the session, with another answer by what was expected
-abbrev pub telling : (Expected → Answer → Answer) → Host
+abbrev pub telling : (Option ℕ → Answer → Answer) → Host
 telling f =
     with (λ st c.
     record {
@@ -161,9 +160,9 @@ stalls = telling (λ e. on_word at_packets)
 
 -- ---- Restart for every arrival where a number was expected
 
-abbrev pub restart_later : Expected → Answer → Answer
-restart_later Nothing a = a
-restart_later (Next x) a = on_event (λ event m. heard Restart m) a
+abbrev pub restart_later : Option ℕ → Answer → Answer
+restart_later None a = a
+restart_later (Some x) a = on_event (λ event m. heard Restart m) a
 
 abbrev pub restarts : Host
 restarts = telling restart_later
@@ -223,7 +222,7 @@ by_answer stale unheard other (flag stalled) = other
 
 -- Stale moves the expected number
 abbrev pub advances : Host
-advances = tracking (λ count a t. by_answer (record { expected = Next (after count); stale_run = t.stale_run }) t t a)
+advances = tracking (λ count a t. by_answer (record { expected = Some (after count); stale_run = t.stale_run }) t t a)
 
 -- the eighth stale one is told Stale
 abbrev pub bears : Host

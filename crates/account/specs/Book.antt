@@ -1,7 +1,7 @@
 -- The book of 01, Demand 3 over a list of calls. Besides the settings and the opening reading it is told, of each call, which it
 -- is and with what arguments, but not the session, and if it was refused. Definitions only.
-use Rattle.std.specs.Prelude.{ℕ, ◌+◌, ◌*◌, Bool, true, false, cond, ℤ, pos, ◌+ℤ◌, ◌-ℤ◌}
-use Rattle.std.proofs.Math.Option.{Option, some, none}
+use Rattle.std.specs.Prelude.{ℕ, ◌+◌, ◌*◌, Bool, true, false, cond, ℤ, pos, ◌+ℤ◌, ◌-ℤ◌, Option, Some, None}
+use Rattle.model.specs.declared.receiver.Parked.{Parked}
 use Rattle.stream.specs.Size.{per_datagram}
 use Rattle.stream.specs.Elapsed.{jump_limit, restart_missing}
 use Rattle.sequence.specs.Tracker.{past}
@@ -9,8 +9,6 @@ use Rattle.model.specs.Rules.{begun, used, elapsed, outage}
 use Rattle.model.specs.Routing.{Routed, iq, status, ignored, malformed, routed}
 use Rattle.model.specs.Host.{Incoming, Call, Begin, Pass, Arrival, Take, Close, TakeMissing, TakeDiscontinuity, TakeStalled}
 use Rattle.account.specs.Whole.{count_of, ahead, fits, fits_below}
-use Rattle.model.specs.declared.receiver.Window.{Window}
-use Rattle.model.specs.declared.receiver.Window.TheVariants.{Shut}
 use Rattle.model.specs.declared.settings.Settings.{Settings}
 
 -- ---- what a call is to the book
@@ -51,27 +49,27 @@ pub record Book : Type 0 where
   pub run : ℕ
   pub accepted_at : ℕ
   pub taken : ℕ
-  pub window : Window
+  pub window : Option Parked
 
 -- before the first call: both times are the opening reading, and no window is open
 abbrev pub blank : ℕ → Book
-blank now = record { expected = none; run = 0; accepted_at = now; taken = now; window = Shut }
+blank now = record { expected = None; run = 0; accepted_at = now; taken = now; window = None }
 
 -- the jump limit for an arrival at `now`
 abbrev pub limit_in : Settings → Book → ℕ → ℕ
 limit_in s b now = jump_limit (elapsed s.sample_rate_hz b.accepted_at b.window now) s.sample_rate_hz
 
 abbrev pub fit_in : Option ℤ → ℕ → ℕ → ℤ → Bool
-fit_in none limit run n = true
-fit_in (some e) limit run n = fits limit run e n
+fit_in None limit run n = true
+fit_in (Some e) limit run n = fits limit run e n
 
 -- the arrival of the number n at `now` fits; the first one does
 abbrev pub fit : Settings → Book → ℕ → ℤ → Bool
 fit s b now n = fit_in b.expected (limit_in s b now) b.run n
 
 abbrev pub below_in : Option ℤ → ℕ → ℤ → Bool
-below_in none run n = false
-below_in (some e) run n = fits_below run e n
+below_in None run n = false
+below_in (Some e) run n = fits_below run e n
 
 -- it fits below e
 abbrev pub late : Book → ℤ → Bool
@@ -83,9 +81,9 @@ restart_in s b i n =
     restart_missing (outage s.sample_rate_hz b.accepted_at b.window i.now i.later (past (count_of n)) i.waiting) s.sample_rate_hz
 
 abbrev pub missing_in : Option ℤ → Bool → ℕ → ℤ → ℕ
-missing_in none fit restart n = 0
-missing_in (some e) true restart n = per_datagram * ahead (n -ℤ e)
-missing_in (some e) false restart n = restart
+missing_in None fit restart n = 0
+missing_in (Some e) true restart n = per_datagram * ahead (n -ℤ e)
+missing_in (Some e) false restart n = restart
 
 -- what it misses
 abbrev pub missing : Settings → Book → Incoming → ℤ → ℕ
@@ -97,7 +95,7 @@ abbrev pub booked : Settings → Book → Incoming → ℤ → Book
 booked s b i n =
     cond (late b n)
     (record { expected = b.expected; run = b.run + 1; accepted_at = b.accepted_at; taken = b.taken; window = b.window })
-    (record { expected = some (n +ℤ pos 1); run = 0; accepted_at = i.now; taken = b.taken; window = used b.window (missing s b i n) })
+    (record { expected = Some (n +ℤ pos 1); run = 0; accepted_at = i.now; taken = b.taken; window = used b.window (missing s b i n) })
 
 -- a Begin may open or refill the window, a Take is noted with its reading, and an arrival is judged
 abbrev pub noted : Settings → Book → News → ℤ → Book

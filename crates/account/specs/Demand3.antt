@@ -1,7 +1,6 @@
 -- Demand 3: the account of the radio's stream agrees with the unbroken stream in whole numbers, over a whole list of calls from a
 -- session just opened. A single claim, about any host. Definitions only.
-use Rattle.std.specs.Prelude.{ℕ, ◌+◌, ◌≡◌, ◌⊎◌, ◌≢◌, ◌↔◌, List, [], ◌∷◌, ◌++◌, length, T, ℤ, pos, ◌+ℤ◌, ◌-ℤ◌, ◌*ℤ◌}
-use Rattle.std.proofs.Math.Option.{Option, some, none}
+use Rattle.std.specs.Prelude.{ℕ, ◌+◌, ◌≡◌, ◌⊎◌, ◌≢◌, ◌↔◌, List, [], ◌∷◌, ◌++◌, length, T, ℤ, pos, ◌+ℤ◌, ◌-ℤ◌, ◌*ℤ◌, Option, Some, None}
 use Rattle.stream.specs.Size.{per_datagram}
 use Rattle.base.specs.Each.{Each}
 use Rattle.sequence.specs.declared.SeqEvent.TheVariants.{InOrder, Stale, Restart}
@@ -15,8 +14,8 @@ use Rattle.account.specs.Ledger.{Sent, calls_of, Line, paired, all_handed_out, E
 use Rattle.model.specs.declared.settings.Settings.{Settings}
 
 abbrev pub NearIn : Option ℤ → ℤ → Type 0
-NearIn none n = Unit {0}
-NearIn (some e) n = Near e n
+NearIn None n = Unit {0}
+NearIn (Some e) n = Near e n
 
 -- the premise: an arrival's whole number is its count modulo 2^32 and, after the first, lies from 2^31 below e to 2^31 - 1 above
 abbrev pub Lies : Entry → Type 0
@@ -24,14 +23,14 @@ Lies x = (count_of x.number ≡ x.count) × NearIn x.book.expected x.number
 
 -- Restart is told exactly where an arrival doesn't fit, Stale exactly where it fits below e; the first is in order
 pub record Judged (s : Settings) (x : Entry) : Type 0 where
-  pub restart : (x.says.event ≡ some Restart) ↔ ¬ T (fitting s x)
-  pub stale : (x.says.event ≡ some Stale) ↔ T (late_entry x)
-  pub first : x.book.expected ≡ none → x.says.event ≡ some InOrder
+  pub restart : (x.says.event ≡ Some Restart) ↔ ¬ T (fitting s x)
+  pub stale : (x.says.event ≡ Some Stale) ↔ T (late_entry x)
+  pub first : x.book.expected ≡ None → x.says.event ≡ Some InOrder
 
 -- a stretch runs from the first arrival, or from one told Restart, up to the next one told Restart or the list's end
 abbrev pub Stretch : List Entry → List Entry → Entry → List Entry → List Entry → Type 0
 Stretch entries before x xs past =
-    (entries ≡ before ++ (x ∷ (xs ++ past))) × ((before ≡ []) ⊎ (x.says.event ≡ some Restart)) × Each (λ y. y.says.event ≢ some Restart) xs
+    (entries ≡ before ++ (x ∷ (xs ++ past))) × ((before ≡ []) ⊎ (x.says.event ≡ Some Restart)) × Each (λ y. y.says.event ≢ Some Restart) xs
 
 abbrev pub Rising : ℤ → List Entry → Type 0
 Rising n [] = Unit {0}
@@ -46,9 +45,9 @@ pub record Sums (x : Entry) (xs : List Entry) : Type 0 where
 -- a call that brings no arrival tells no event and no missing
 abbrev pub Mute : News → Tells → Type 0
 Mute (Came i count) a = Unit {0}
-Mute Quiet a = (a.event ≡ none) × (a.missing ≡ 0)
-Mute (Began now) a = (a.event ≡ none) × (a.missing ≡ 0)
-Mute (Took now) a = (a.event ≡ none) × (a.missing ≡ 0)
+Mute Quiet a = (a.event ≡ None) × (a.missing ≡ 0)
+Mute (Began now) a = (a.event ≡ None) × (a.missing ≡ 0)
+Mute (Took now) a = (a.event ≡ None) × (a.missing ≡ 0)
 
 -- the claim about the lines of a list, the samples that wait after it, and its arrivals
 pub record Agrees (s : Settings) (ls : List Line) (waiting : List Sample) (entries : List Entry) : Type 0 where

@@ -1,7 +1,6 @@
 -- More than demand 3 asks: every answer tells the book's own event and missing, a restart's and the first arrival's too, and no other
 -- call tells an event or a loss. Definitions only.
-use Rattle.std.specs.Prelude.{ℕ, ◌≡◌, List, [], ◌∷◌, T, ℤ}
-use Rattle.std.proofs.Math.Option.{Option, some, none}
+use Rattle.std.specs.Prelude.{ℕ, ◌≡◌, List, [], ◌∷◌, T, ℤ, Option, Some, None}
 use Rattle.sequence.specs.declared.SeqEvent.{SeqEvent}
 use Rattle.sequence.specs.declared.SeqEvent.TheVariants.{InOrder}
 use Rattle.model.specs.Settings.{accepts}
@@ -16,15 +15,15 @@ use Rattle.model.specs.declared.settings.Settings.{Settings}
 
 -- the event of an arrival by the book; the first is in order
 abbrev pub verdict_in : Option ℤ → ℕ → ℕ → ℤ → SeqEvent
-verdict_in none limit run n = InOrder
-verdict_in (some e) limit run n = verdict limit run e n
+verdict_in None limit run n = InOrder
+verdict_in (Some e) limit run n = verdict limit run e n
 
 abbrev pub Exact : Settings → Book → News → ℤ → Tells → Type 0
-Exact s b Quiet n a = (a.event ≡ none) × (a.missing ≡ 0)
-Exact s b (Began now) n a = (a.event ≡ none) × (a.missing ≡ 0)
-Exact s b (Took now) n a = (a.event ≡ none) × (a.missing ≡ 0)
+Exact s b Quiet n a = (a.event ≡ None) × (a.missing ≡ 0)
+Exact s b (Began now) n a = (a.event ≡ None) × (a.missing ≡ 0)
+Exact s b (Took now) n a = (a.event ≡ None) × (a.missing ≡ 0)
 Exact s b (Came i count) n a =
-    (a.event ≡ some (verdict_in b.expected (limit_in s b i.now) b.run n)) × (a.missing ≡ missing s b i n)
+    (a.event ≡ Some (verdict_in b.expected (limit_in s b i.now) b.run n)) × (a.missing ≡ missing s b i n)
 
 abbrev pub AllLines : Settings → (Book → News → ℤ → Tells → Type 0) → Book → List Line → Type 0
 AllLines s P b [] = Unit {0}

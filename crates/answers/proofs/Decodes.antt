@@ -1,4 +1,5 @@
 -- An answer and the streams of a reply, read back from their numbers. Assumes nothing.
+use Rattle.std.specs.Prelude.{Some, None}
 use Prim.Native.Nat.{ℕ, ◌+◌, ◌-◌, ◌≤◌, ◌<◌}
 use mathlib.Core.Path.{◌≡◌, refl, ap}
 use mathlib.Core.Bool.{true, false}
@@ -13,7 +14,6 @@ use Rattle.sequence.specs.declared.SeqEvent.TheVariants.{InOrder, Gap, Stale, Re
 use Rattle.model.specs.Answer.{Word, Answer, refused, done, heard, took, slot, flag, begun, ready, soft_stall, hard_stall, sent, ignored, status, malformed, malformed_limit, closed}
 use Rattle.model.specs.Host.{Reply}
 use Rattle.model.specs.Command.{streams_as}
-use Rattle.model.specs.declared.receiver.Slot.TheVariants.{Empty, Holds}
 use Rattle.answers.specs.Code.{word_of, coded, answer_of, answer_in, streams_in, numbers_in}
 
 pub answer_back : (a : Answer) → answer_of (coded a).code (coded a).value ≡ a
@@ -47,8 +47,8 @@ answer_back (heard (Gap n) m) =
     )
     (ap (λ (k : ℕ). heard (Gap k) m) (omega arith))
 answer_back (took n) = refl
-answer_back (slot Empty) = refl
-answer_back (slot (Holds n)) = refl
+answer_back (slot None) = refl
+answer_back (slot (Some n)) = refl
 answer_back (flag false) = refl
 answer_back (flag true) = refl
 
@@ -58,7 +58,7 @@ module _ (P : Answer → Type 0) (c v : ℕ) where
   past k n h = let d = eqb-false c k n in omega (arith, d)
 
   pub answer-cases : (c ≡ 0 → P (refused v)) → (c < 11 → (w : Word) → P (done w)) → (c ≡ 11 → P (heard InOrder v)) → (c ≡ 12 → P (heard Stale v))
-      → (c ≡ 13 → P (heard Restart v)) → (c ≡ 14 → P (took v)) → (c ≡ 15 → P (slot Empty)) → (c ≡ 16 → P (slot (Holds v))) → (c ≡ 17 → P (flag false))
+      → (c ≡ 13 → P (heard Restart v)) → (c ≡ 14 → P (took v)) → (c ≡ 15 → P (slot None)) → (c ≡ 16 → P (slot (Some v))) → (c ≡ 17 → P (flag false))
       → (c ≡ 18 → P (flag true)) → (19 ≤ c → P (heard (Gap (c - 19)) v)) → P (answer_of c v)
   answer-cases p0 p1 p11 p12 p13 p14 p15 p16 p17 p18 p19 =
       pick-either _ _ _ P (λ h. p0 (eqb-true c 0 h)) (λ n0. pick-either _ _ _ P (λ h. p1 (ltb-true c 11 h) (word_of c)) (λ n1.

@@ -1,13 +1,12 @@
 -- An answer as two numbers, and a call's whole reply as eight: the answer's code and value, how many streams it wrote, and their
 -- offsets in order, the unused places 0. Definitions only.
-use Rattle.std.specs.Prelude.{ℕ, ◌+◌, ◌-◌, true, false, List, ◌∷◌, get_or, take, drop, eqb, ltb}
+use Rattle.std.specs.Prelude.{ℕ, ◌+◌, ◌-◌, true, false, List, ◌∷◌, get_or, take, drop, eqb, ltb, Some, None}
 use Rattle.base.specs.Pick.{pick}
 use Rattle.sequence.specs.declared.SeqEvent.{SeqEvent}
 use Rattle.sequence.specs.declared.SeqEvent.TheVariants.{InOrder, Gap, Stale, Restart}
 use Rattle.model.specs.Answer.{Word, begun, ready, soft_stall, hard_stall, sent, ignored, status, malformed, malformed_limit, closed, Answer, refused, done, heard, took, slot, flag}
 use Rattle.model.specs.Host.{Reply}
 use Rattle.model.specs.Command.{streams_as}
-use Rattle.model.specs.declared.receiver.Slot.TheVariants.{Empty, Holds}
 use Rattle.model.specs.declared.command.Streams.{Streams}
 use Rattle.answers.specs.declared.Code.{Code}
 
@@ -41,8 +40,8 @@ coded (refused number) = code 0 number
 coded (done word) = code (word_code word) 0
 coded (heard event missing) = code (event_code event) missing
 coded (took pairs) = code 14 pairs
-coded (slot Empty) = code 15 0
-coded (slot (Holds n)) = code 16 n
+coded (slot None) = code 15 0
+coded (slot (Some n)) = code 16 n
 coded (flag false) = code 17 0
 coded (flag true) = code 18 0
 
@@ -76,8 +75,8 @@ answer_of c v =
     (pick (eqb c 12) (heard Stale v)
     (pick (eqb c 13) (heard Restart v)
     (pick (eqb c 14) (took v)
-    (pick (eqb c 15) (slot Empty)
-    (pick (eqb c 16) (slot (Holds v))
+    (pick (eqb c 15) (slot None)
+    (pick (eqb c 16) (slot (Some v))
     (pick (eqb c 17) (flag false)
     (pick (eqb c 18) (flag true) (heard (Gap (c - 19)) v))))))))))
 

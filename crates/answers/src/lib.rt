@@ -5,13 +5,12 @@ ghost use Rattle.std.specs.Prelude.{◌≡◌, length};
 ghost use Rattle.model.specs.Answer as Answer;
 ghost use Rattle.answers.specs.Code.{coded, numbers_of};
 
-use model::answer::{ArrivalAnswer, BeginAnswer, CloseAnswer, PassAnswer, TakeAnswer};
+use model::answer::{ArrivalAnswer, PassAnswer, Refusal};
 use model::command::Streams;
-use model::receiver::Slot;
 use sequence::SeqEvent;
 
-// The codes of the answers (specs/Code). A refusal's value is 01's number of it; that of an I/Q answer is the missing, of TOOK the
-// pairs, of HOLDS what the slot held.
+// The codes of the answers (specs/Code): numbers, since a list's answers go out as numbers. A refusal's value is 01's number of it;
+// that of an I/Q answer is the missing, of TOOK the pairs, of HOLDS what the slot held.
 pub const REFUSED: u64 = 0;
 
 pub const BEGUN: u64 = 1;
@@ -76,36 +75,33 @@ fn word(code: u64) -> Code
 }
 
 // By 01's number.
-fn refused(number: u64) -> Code
-    ensures { result ≡ coded (Answer.refused number) }
+fn refused(r: Refusal) -> Code
+    ensures { result ≡ coded (Answer.refused_by r) }
 {
     Code {
         code: REFUSED,
-        value: number,
+        value: r.number(),
     }
 }
 
-pub fn of_begin(a: BeginAnswer) -> Code
+pub fn of_begin(a: Result<(), Refusal>) -> Code
     ensures { result ≡ coded (Answer.begin_answer a) }
 {
     match a {
-        BeginAnswer::Begun => word(BEGUN),
-        BeginAnswer::NotNow => refused(10),
-        BeginAnswer::ReadingFell => refused(11),
+        Ok(()) => word(BEGUN),
+        Err(r) => refused(r),
     }
 }
 
-pub fn of_pass(a: PassAnswer) -> Code
+pub fn of_pass(a: Result<PassAnswer, Refusal>) -> Code
     ensures { result ≡ coded (Answer.pass_answer a) }
 {
     match a {
-        PassAnswer::Ready => word(READY),
-        PassAnswer::SoftStall => word(SOFT_STALL),
-        PassAnswer::HardStall => word(HARD_STALL),
-        PassAnswer::Sent => word(SENT),
-        PassAnswer::NotNow => refused(10),
-        PassAnswer::ReadingFell => refused(11),
-        PassAnswer::NoRoom => refused(15),
+        Ok(PassAnswer::Ready) => word(READY),
+        Ok(PassAnswer::SoftStall) => word(SOFT_STALL),
+        Ok(PassAnswer::HardStall) => word(HARD_STALL),
+        Ok(PassAnswer::Sent) => word(SENT),
+        Err(r) => refused(r),
     }
 }
 
@@ -132,55 +128,46 @@ fn of_event(event: SeqEvent, missing: u64) -> Code
     }
 }
 
-pub fn of_arrival(a: ArrivalAnswer) -> Code
+pub fn of_arrival(a: Result<ArrivalAnswer, Refusal>) -> Code
     ensures { result ≡ coded (Answer.arrival_answer a) }
 {
     match a {
-        ArrivalAnswer::Ignored => word(IGNORED),
-        ArrivalAnswer::Status => word(STATUS),
-        ArrivalAnswer::Malformed => word(MALFORMED),
-        ArrivalAnswer::MalformedLimit => word(MALFORMED_LIMIT),
-        ArrivalAnswer::Iq { event, missing } => of_event(event, missing),
-        ArrivalAnswer::NotNow => refused(10),
-        ArrivalAnswer::ReadingFell => refused(11),
-        ArrivalAnswer::SamplesWait => refused(12),
-        ArrivalAnswer::LaterFell => refused(13),
-        ArrivalAnswer::TooManyWaiting => refused(14),
-        ArrivalAnswer::NoRoom => refused(15),
+        Ok(ArrivalAnswer::Ignored) => word(IGNORED),
+        Ok(ArrivalAnswer::Status) => word(STATUS),
+        Ok(ArrivalAnswer::Malformed) => word(MALFORMED),
+        Ok(ArrivalAnswer::MalformedLimit) => word(MALFORMED_LIMIT),
+        Ok(ArrivalAnswer::Iq { event, missing }) => of_event(event, missing),
+        Err(r) => refused(r),
     }
 }
 
-pub fn of_take(a: TakeAnswer) -> Code
+pub fn of_take(a: Result<usize, Refusal>) -> Code
     ensures { result ≡ coded (Answer.take_answer a) }
 {
     match a {
-        TakeAnswer::Took(pairs) => Code {
+        Ok(pairs) => Code {
             code: TOOK,
             value: pairs as u64,
         },
-        TakeAnswer::NotNow => refused(10),
-        TakeAnswer::ReadingFell => refused(11),
-        TakeAnswer::NoRoom => refused(16),
-        TakeAnswer::NothingWaits => refused(17),
+        Err(r) => refused(r),
     }
 }
 
-pub fn of_close(a: CloseAnswer) -> Code
+pub fn of_close(a: Result<(), Refusal>) -> Code
     ensures { result ≡ coded (Answer.close_answer a) }
 {
     match a {
-        CloseAnswer::Closed => word(CLOSED),
-        CloseAnswer::NotNow => refused(10),
-        CloseAnswer::NoRoom => refused(15),
+        Ok(()) => word(CLOSED),
+        Err(r) => refused(r),
     }
 }
 
-pub fn of_slot(slot: Slot) -> Code
+pub fn of_slot(slot: Option<u64>) -> Code
     ensures { result ≡ coded (Answer.slot slot) }
 {
     match slot {
-        Slot::Empty => word(EMPTY),
-        Slot::Holds(n) => Code {
+        None => word(EMPTY),
+        Some(n) => Code {
             code: HOLDS,
             value: n,
         },

@@ -1,4 +1,5 @@
 -- Arrival: its rows in order, then what it is routed as, and a status packet's and a malformed datagram's answers. Assumes nothing.
+use Rattle.std.specs.Prelude.{Option, Some, None}
 use Prim.Native.Nat.{ℕ, ◌≤◌, ◌<◌}
 use mathlib.Core.Path.{◌≡◌, refl, sym, ap, ◌∙◌}
 use mathlib.Core.Bool.{Bool, true, false}
@@ -11,8 +12,6 @@ use Rattle.base.proofs.Picks.{pick-t, pick-f}
 use Rattle.base.specs.Told.{gives}
 use Rattle.iq.specs.Iq.{header_told, samples_of}
 use Rattle.wire.specs.Status.{overload_told, overloaded, overload_answer}
-use Rattle.wire.specs.declared.status.OverloadBits.{OverloadBits}
-use Rattle.wire.specs.declared.status.OverloadBits.TheVariants.{Bits, NoBits}
 use Rattle.attenuator.specs.Controller as Controller
 use Rattle.attenuator.specs.declared.Controller.{Controller}
 use Rattle.model.specs.Answer.{done, heard, ignored, status, malformed, malformed_limit}
@@ -26,8 +25,6 @@ use Rattle.model.specs.Rules.{is_stale}
 use Rattle.model.specs.Hearing.{accepted_by, left_out, counted}
 use Rattle.model.specs.Arrival.{without_packets, heard_common, hear, heard_as, heard_iq, overload, heard_status, with_one_more, heard_malformed, arrived, at_later, route, arrival}
 use Rattle.model.specs.declared.receiver.Receiver.{Receiver}
-use Rattle.model.specs.declared.session.Attenuation.{Attenuation}
-use Rattle.model.specs.declared.session.Attenuation.TheVariants.{Off, On}
 use Rattle.model.specs.declared.session.Common.{Common}
 use Rattle.model.specs.declared.sender.Sender.{Sender}
 use Rattle.model.specs.declared.session.Session.{Session}
@@ -136,23 +133,23 @@ module _ (st : State) (reading later : ℕ) (from : Sender) (octets waiting d : 
 -- ---- a status packet
 
 module _ (s : Session) (i : Incoming) (d : List ℕ) where
-  pub status-off : s.common.attenuator.attenuation ≡ Off → heard_status s i d ≡ without_packets (done ignored) d s
+  pub status-off : s.common.attenuation ≡ None → heard_status s i d ≡ without_packets (done ignored) d s
   unfolding heard_status overload
-  status-off e = ap (λ (a : Attenuation). overload s i d a (overload_told i.octets)) e
+  status-off e = ap (λ (a : Option Controller). overload s i d a (overload_told i.octets)) e
 
-  module _ (controller : Controller) (on : s.common.attenuator.attenuation ≡ On controller) (r : OverloadBits) (t : overload_answer r ≡ overload_told i.octets) where
-    heard-on : heard_status s i d ≡ overload s i d (On controller) (overload_answer r)
+  module _ (controller : Controller) (on : s.common.attenuation ≡ Some controller) (r : Option ℕ) (t : overload_answer r ≡ overload_told i.octets) where
+    heard-on : heard_status s i d ≡ overload s i d (Some controller) (overload_answer r)
     unfolding heard_status
-    heard-on = ap (λ (a : Attenuation). overload s i d a (overload_told i.octets)) on ∙ ap (overload s i d (On controller)) (sym t)
+    heard-on = ap (λ (a : Option Controller). overload s i d a (overload_told i.octets)) on ∙ ap (overload s i d (Some controller)) (sym t)
 
-    pub status-unread : r ≡ NoBits → heard_status s i d ≡ without_packets (done ignored) d s
+    pub status-unread : r ≡ None → heard_status s i d ≡ without_packets (done ignored) d s
     unfolding overload
-    status-unread e = heard-on ∙ ap (λ (x : OverloadBits). overload s i d (On controller) (overload_answer x)) e
+    status-unread e = heard-on ∙ ap (λ (x : Option ℕ). overload s i d (Some controller) (overload_answer x)) e
 
-    pub status-read : (bits : ℕ) → r ≡ Bits bits
+    pub status-read : (bits : ℕ) → r ≡ Some bits
         → heard_status s i d ≡ wrote (done status) s d (stepped i.later (Controller.observed controller (overloaded bits) i.now) s.common)
     unfolding overload
-    status-read bits e = heard-on ∙ ap (λ (x : OverloadBits). overload s i d (On controller) (overload_answer x)) e
+    status-read bits e = heard-on ∙ ap (λ (x : Option ℕ). overload s i d (Some controller) (overload_answer x)) e
 
 -- ---- a malformed datagram
 

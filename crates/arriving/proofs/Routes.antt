@@ -1,4 +1,7 @@
 -- What an arrival is: the header's answer, and the tests of sender and port. Assumes nothing.
+use Rattle.std.specs.Prelude.{Result, Ok, Err}
+use Rattle.iq.specs.declared.IqError.{IqError}
+use Rattle.iq.specs.declared.IqError.TheVariants.{Length, BitsPerSample, SamplesPerFrame, NoRoom}
 use Prim.Native.Nat.{ℕ, ◌-◌, ◌≤◌, ◌<◌}
 use mathlib.Core.Path.{◌≡◌, refl, sym, ap, ◌∙◌}
 use mathlib.Core.Bool.{not}
@@ -10,30 +13,28 @@ use Rattle.base.proofs.Picks.{pick-t, pick-f, pick-either}
 use Rattle.base.specs.Told.{Told, gives, refused}
 use Rattle.iq.proofs.Headers.{given-count}
 use Rattle.iq.specs.Iq.{iq_answer, header_told}
-use Rattle.iq.specs.declared.IqAnswer.{IqAnswer}
-use Rattle.iq.specs.declared.IqAnswer.TheVariants.{Accepted, Length, BitsPerSample, SamplesPerFrame, NoRoom}
 use Rattle.model.specs.Routing.{Routed, iq, status, ignored, malformed, by_header, by_offset, routed}
 use Rattle.model.specs.declared.sender.Sender.{Sender}
 use Rattle.model.specs.declared.sender.Sender.TheVariants.{V4, V6}
 
 module _ (offset : ℕ) (b : List ℕ) where
-  module _ (h : offset ≡ 11) (r : IqAnswer) (t : iq_answer r ≡ header_told b) where
+  module _ (h : offset ≡ 11) (r : Result ℕ IqError) (t : iq_answer r ≡ header_told b) where
     headed : by_header (iq_answer r) ≡ by_offset offset b
     unfolding by_offset
     headed = ap by_header t ∙ sym (pick-t _ _ _ (eq-eqb offset 11 h))
 
-    pub header_refused : ((count : ℕ) → r ≡ Accepted count → ⊥) → malformed ≡ by_offset offset b
+    pub header_refused : ((count : ℕ) → r ≡ Ok count → ⊥) → malformed ≡ by_offset offset b
     header_refused n = go r n ∙ headed
       where
-        go : (r : IqAnswer) → ((count : ℕ) → r ≡ Accepted count → ⊥) → malformed ≡ by_header (iq_answer r)
-        go (Accepted count) n = absurd (n count refl)
-        go (Length k) n = refl
-        go (BitsPerSample v) n = refl
-        go (SamplesPerFrame v) n = refl
-        go NoRoom n = refl
+        go : (r : Result ℕ IqError) → ((count : ℕ) → r ≡ Ok count → ⊥) → malformed ≡ by_header (iq_answer r)
+        go (Ok count) n = absurd (n count refl)
+        go (Err (Length k)) n = refl
+        go (Err (BitsPerSample v)) n = refl
+        go (Err (SamplesPerFrame v)) n = refl
+        go (Err NoRoom) n = refl
 
-    pub header-right : (count : ℕ) → r ≡ Accepted count → iq count ≡ by_offset offset b
-    header-right count e = sym (ap (λ (x : IqAnswer). by_header (iq_answer x)) e) ∙ headed
+    pub header-right : (count : ℕ) → r ≡ Ok count → iq count ≡ by_offset offset b
+    header-right count e = sym (ap (λ (x : Result ℕ IqError). by_header (iq_answer x)) e) ∙ headed
 
   module _ (not11 : offset ≡ 11 → ⊥) where
     pub offset-status : offset ≡ 1 → status ≡ by_offset offset b

@@ -9,28 +9,17 @@ use super::heard::heard_iq;
 use super::malformed::malformed;
 use super::route::{Route, routed};
 use super::status::handle_status;
-use model::answer::{ArrivalAnswer, Arrived};
+use model::answer::{Answered, ArrivalAnswer, Refusal};
 use model::sender::Sender;
 use model::session::Session;
 use receiving::hear::hear;
 use receiving::queue::waits;
 use receiving::read::not_reading;
-use sending::send::no_streams;
+use sending::send::without_packets;
 use stream::{F32_PER_DATAGRAM, MAX_BUFFERED_DATAGRAMS};
 
 // A step's packet.
 const ARRIVAL_LEN: usize = 1444;
-
-// An answer that wrote no packet.
-pub(crate) fn without_packets(answer: ArrivalAnswer, session: Session) -> Arrived
-    ensures { result ≡ record { answer = answer; streams = streams_as []; session = session } }
-{
-    Arrived {
-        answer,
-        streams: no_streams(),
-        session,
-    }
-}
 
 // After every refusal, of a session whose last reading is the later one.
 fn arrived(
@@ -42,7 +31,7 @@ fn arrived(
     datagram: &[u8],
     waiting: &[u32],
     packets: &mut [u8],
-) -> Arrived
+) -> Answered<ArrivalAnswer>
     requires { 1444 ≤ length packets.old }
     ensures { Gives (arrival_answer result.answer) result.streams packets.new (joined result.session samples.new)
         (arrived_by (joined s samples.old)
@@ -68,7 +57,7 @@ fn arrived(
             heard_iq(s, heard)
         }
         Route::Status => handle_status(s, reading, later, datagram, packets),
-        Route::Ignored => without_packets(ArrivalAnswer::Ignored, s),
+        Route::Ignored => without_packets(Ok(ArrivalAnswer::Ignored), s),
         Route::Malformed => malformed(s),
     }
 }
@@ -77,7 +66,7 @@ fn arrived(
 // `waiting` the numbers of the datagrams that wait behind it, at most 8192. Lend the session's 476 f32, and at least 1444 octets for
 // packets, also where none is written. Iq: the event and what it misses; unless it is Stale, samples wait now, take them. Status: send
 // the packet if `streams` lists one. Ignored, Malformed: go on. MalformedLimit: the read is closed, begin another. NotNow (10),
-// ReadingFell (11), SamplesWait (12), LaterFell (13), TooManyWaiting (14) and NoRoom (15) refuse, and change nothing.
+// ReadingFell (11), SamplesWait (12), LaterFell (13), TooManyWaiting (14) and NoPacketRoom (15) refuse, and change nothing.
 pub fn arrival(
     s: Session,
     samples: &mut [f32; F32_PER_DATAGRAM],
@@ -87,29 +76,29 @@ pub fn arrival(
     datagram: &[u8],
     waiting: &[u32],
     packets: &mut [u8],
-) -> Arrived
+) -> Answered<ArrivalAnswer>
     ensures { Gives (arrival_answer result.answer) result.streams packets.new (joined result.session samples.new)
         (Arrival.arrival (joined s samples.old)
         (incoming reading later from datagram.now waiting.now) packets.old) }
 {
     let receiver = s.receiver;
     if not_reading(s.common.closed, receiver) {
-        return without_packets(ArrivalAnswer::NotNow, s);
+        return without_packets(Err(Refusal::NotNow), s);
     }
     if reading < s.common.last_reading {
-        return without_packets(ArrivalAnswer::ReadingFell, s);
+        return without_packets(Err(Refusal::ReadingFell), s);
     }
     if waits(receiver) {
-        return without_packets(ArrivalAnswer::SamplesWait, s);
+        return without_packets(Err(Refusal::SamplesWait), s);
     }
     if later < reading {
-        return without_packets(ArrivalAnswer::LaterFell, s);
+        return without_packets(Err(Refusal::LaterFell), s);
     }
     if waiting.len() as u64 > MAX_BUFFERED_DATAGRAMS {
-        return without_packets(ArrivalAnswer::TooManyWaiting, s);
+        return without_packets(Err(Refusal::TooManyWaiting), s);
     }
     if packets.len() < ARRIVAL_LEN {
-        return without_packets(ArrivalAnswer::NoRoom, s);
+        return without_packets(Err(Refusal::NoPacketRoom), s);
     }
     let mut next = s;
     next.common.last_reading = later;

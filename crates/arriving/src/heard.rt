@@ -1,14 +1,14 @@
 // A valid I/Q datagram that the receiver has heard: the session with it.
-ghost use Rattle.std.specs.Prelude.{◌≡◌, []};
+ghost use Rattle.std.specs.Prelude.{◌≡◌, [], Ok};
 ghost use Rattle.model.specs.Arrival.{heard_common};
 ghost use Rattle.model.specs.Command.{streams_as};
 ghost use Rattle.model.specs.declared.answer.ArrivalAnswer.TheVariants.{Iq};
 
-use super::arrival::without_packets;
 use health::InputHealthCounters;
-use model::answer::{ArrivalAnswer, Arrived};
+use model::answer::{Answered, ArrivalAnswer};
 use model::session::{Common, Session};
 use receiving::hear::Heard;
+use sending::send::without_packets;
 
 // Valid I/Q zeroes the consecutive malformed count.
 fn note_heard(c: Common, health: InputHealthCounters) -> Common
@@ -20,19 +20,19 @@ fn note_heard(c: Common, health: InputHealthCounters) -> Common
     next
 }
 
-pub(crate) fn heard_iq(s: Session, h: Heard) -> Arrived
+pub(crate) fn heard_iq(s: Session, h: Heard) -> Answered<ArrivalAnswer>
     ensures { result ≡ record
-        { answer = Iq h.event h.missing; streams = streams_as []; session = record { common = heard_common h.health s.common; receiver = h.receiver } } }
+        { answer = Ok (Iq h.event h.missing); streams = streams_as []; session = record { common = heard_common h.health s.common; receiver = h.receiver } } }
 {
     let common = s.common;
     let health = h.health;
     let receiver = h.receiver;
     let event = h.event;
     without_packets(
-        ArrivalAnswer::Iq {
+        Ok(ArrivalAnswer::Iq {
             event,
             missing: h.missing,
-        },
+        }),
         Session {
             common: note_heard(common, health),
             receiver,

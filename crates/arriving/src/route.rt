@@ -3,7 +3,7 @@ ghost use Rattle.std.specs.Prelude.{◌≡◌};
 ghost use Rattle.model.specs.Routing as Routing;
 ghost use Rattle.arriving.specs.Route.{route_of};
 
-use iq::{IqAnswer, iq_header};
+use iq::iq_header;
 use model::sender::Sender;
 
 // DDC0's I/Q: the highest source port of the radio's port map, relative to the port.
@@ -15,6 +15,7 @@ const STATUS_PORT_OFFSET: u16 = 1;
 // The highest port that is read and ignored.
 const LAST_IGNORED_PORT_OFFSET: u16 = 10;
 
+// No closure takes it further: each route's step is written once, in `arrived`, where the four stand side by side.
 #[derive(Clone, Copy)]
 pub(crate) enum Route {
     // a valid I/Q datagram, with its count
@@ -28,8 +29,7 @@ fn by_offset(offset: u16, datagram: &[u8]) -> Route
     ensures { route_of result ≡ Routing.by_offset offset datagram.now }
 {
     if offset == DDC0_PORT_OFFSET {
-        let header = iq_header(datagram);
-        let IqAnswer::Accepted(count) = header else {
+        let Ok(count) = iq_header(datagram) else {
             return Route::Malformed;
         };
         return Route::Iq(count);

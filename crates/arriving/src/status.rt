@@ -6,29 +6,31 @@ ghost use Rattle.model.specs.Sending as Sending;
 ghost use Rattle.model.specs.Gives.{Gives};
 ghost use Rattle.arriving.specs.Hears.{HearsStatus};
 
-use super::arrival::without_packets;
-use attenuator::Stepped;
+use attenuator::{AttenuationStep, Controller};
 use keepalive::apply_step;
-use model::answer::{ArrivalAnswer, Arrived};
-use model::session::{Attenuation, Session};
-use sending::send::start;
-use wire::status::{OverloadBits, adc_overload_bits, adc0_overload};
+use model::answer::{Answered, ArrivalAnswer};
+use model::session::Session;
+use sending::send::{start, without_packets};
+use wire::status::{adc_overload_bits, adc0_overload};
 
 // What the controller made of an overload bit; a step up writes its packet.
-fn stepped(s: Session, made: Stepped, later: u64, packets: &mut [u8]) -> Arrived
+fn stepped(
+    s: Session,
+    controller: Controller,
+    step: Option<AttenuationStep>,
+    later: u64,
+    packets: &mut [u8],
+) -> Answered<ArrivalAnswer>
     requires { 1444 ≤ length packets.old }
     ensures { Gives (arrival_answer result.answer) result.streams packets.new result.session
-        (wrote (done status) s packets.old (Sending.stepped later made s.common)) }
+        (wrote (done status) s packets.old (Sending.stepped later (record { step = step; controller = controller }) s.common)) }
 {
-    let common = s.common;
-    let sent = apply_step(start(common), made, later, packets);
-    let after = sent.common;
-    let streams = sent.streams;
+    let sent = apply_step(start(s.common), controller, step, later, packets);
     let mut next = s;
-    next.common = after;
-    Arrived {
-        answer: ArrivalAnswer::Status,
-        streams,
+    next.common = sent.common;
+    Answered {
+        answer: Ok(ArrivalAnswer::Status),
+        streams: sent.streams,
         session: next,
     }
 }
@@ -41,19 +43,17 @@ pub(crate) fn handle_status(
     later: u64,
     datagram: &[u8],
     packets: &mut [u8],
-) -> Arrived
+) -> Answered<ArrivalAnswer>
     requires { 1444 ≤ length packets.old }
     ensures { HearsStatus s reading later datagram.now packets.old result packets.new }
 {
-    let attenuator = s.common.attenuator;
-    let attenuation = attenuator.attenuation;
-    let Attenuation::On(controller) = attenuation else {
-        return without_packets(ArrivalAnswer::Ignored, s);
+    let Some(before) = s.common.attenuation else {
+        return without_packets(Ok(ArrivalAnswer::Ignored), s);
     };
-    let overload = adc_overload_bits(datagram);
-    let OverloadBits::Bits(bits) = overload else {
-        return without_packets(ArrivalAnswer::Ignored, s);
+    let Some(bits) = adc_overload_bits(datagram) else {
+        return without_packets(Ok(ArrivalAnswer::Ignored), s);
     };
-    let made = controller.observe(adc0_overload(bits), reading);
-    stepped(s, made, later, packets)
+    let mut controller = before;
+    let step = controller.observe(adc0_overload(bits), reading);
+    stepped(s, controller, step, later, packets)
 }

@@ -12,7 +12,7 @@ use Rattle.attenuator.specs.Controller.{opened, run_start_of, heard, trips, stay
 use Rattle.attenuator.specs.Level.{Call, observe, tick, called, Moves, Steady}
 use Rattle.attenuator.specs.declared.Timing.{Timing}
 use Rattle.attenuator.specs.declared.Controller.{Controller}
-use Rattle.attenuator.specs.declared.Stepped.{Stepped}
+use Rattle.attenuator.specs.Controller.{Stepped}
 
 -- what is shown of each call
 record Good (c : Controller) (s : Stepped) : Type 0 where

@@ -1,13 +1,13 @@
 -- What a call of the controller gives, by the tests that the code makes in turn. Assumes nothing.
+use Rattle.std.specs.Prelude.{Some}
 use Prim.Native.Nat.{ℕ}
 use mathlib.Core.Path.{◌≡◌, sym, ap, ◌∙◌}
 use mathlib.Core.Bool.{Bool, true, false}
 use Rattle.base.proofs.Picks.{pick-t, pick-f}
 use Rattle.attenuator.specs.Controller.{run_start_of, heard, trips, up, stays, overload, observed, releases, down, quieted, ticked}
 use Rattle.attenuator.specs.declared.AttenuationCause.TheVariants.{Overload, Quiet}
-use Rattle.attenuator.specs.declared.AttenuationStep.TheVariants.{Step}
 use Rattle.attenuator.specs.declared.Controller.{Controller}
-use Rattle.attenuator.specs.declared.Stepped.{Stepped}
+use Rattle.attenuator.specs.Controller.{Stepped}
 
 module _ (c : Controller) (now : ℕ) where
   pub clear : (o : Bool) → o ≡ false → stays c ≡ observed c o now
@@ -24,11 +24,11 @@ module _ (c : Controller) (now : ℕ) where
     no-trip t e = ap stays e ∙ sym (pick-f _ _ _ t) ∙ in-run
 
     pub trip : trips c start now ≡ true → (to : ℕ) → to ≡ up c.db → k ≡ heard c to now now
-        → ◌≡◌ {A = Stepped} (record { step = Step c.db to Overload; controller = k }) (observed c o now)
+        → ◌≡◌ {A = Stepped} (record { step = Some (record { from_db = c.db; to_db = to; cause = Overload }); controller = k }) (observed c o now)
     unfolding overload
     trip t to u e =
-        ap (λ (k : Controller). record { step = Step c.db to Overload; controller = k }) e
-        ∙ ap (λ (to : ℕ). record { step = Step c.db to Overload; controller = heard c to now now }) u
+        ap (λ (k : Controller). record { step = Some (record { from_db = c.db; to_db = to; cause = Overload }); controller = k }) e
+        ∙ ap (λ (to : ℕ). record { step = Some (record { from_db = c.db; to_db = to; cause = Overload }); controller = heard c to now now }) u
         ∙ sym (pick-t _ _ _ t)
         ∙ in-run
 
@@ -37,6 +37,6 @@ module _ (c : Controller) (now : ℕ) where
   no-release t = sym (pick-f _ _ _ t)
 
   pub release : releases c now ≡ true → (to : ℕ) → to ≡ down c.db
-      → ◌≡◌ {A = Stepped} (record { step = Step c.db to Quiet; controller = quieted c to now }) (ticked c now)
+      → ◌≡◌ {A = Stepped} (record { step = Some (record { from_db = c.db; to_db = to; cause = Quiet }); controller = quieted c to now }) (ticked c now)
   unfolding ticked
-  release t to d = ap (λ (to : ℕ). record { step = Step c.db to Quiet; controller = quieted c to now }) d ∙ sym (pick-t _ _ _ t)
+  release t to d = ap (λ (to : ℕ). record { step = Some (record { from_db = c.db; to_db = to; cause = Quiet }); controller = quieted c to now }) d ∙ sym (pick-t _ _ _ t)

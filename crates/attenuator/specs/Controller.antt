@@ -1,14 +1,11 @@
 -- The attenuator, 01: 6 dB more, 30 at most, when overload reports no more than 0.5 s apart went on for 2 s; 6 dB less after a
 -- quiet of 600 s. Definitions only. A difference of readings is of natural numbers, and so never below 0.
-use Rattle.std.specs.Prelude.{ℕ, ◌+◌, ◌-◌, min, Bool, false, not, ◌&&◌, leb, ltb, eqb}
+use Rattle.std.specs.Prelude.{ℕ, ◌+◌, ◌-◌, min, Bool, false, not, ◌&&◌, leb, ltb, eqb, unwrap_or, Option, Some, None}
 use Rattle.base.specs.Pick.{pick}
 use Rattle.attenuator.specs.declared.Timing.{Timing}
-use Rattle.attenuator.specs.declared.Moment.{Moment}
-use Rattle.attenuator.specs.declared.Moment.TheVariants.{Never, At}
 use Rattle.attenuator.specs.declared.AttenuationCause.TheVariants.{Overload, Quiet}
-use Rattle.attenuator.specs.declared.AttenuationStep.TheVariants.{NoStep, Step}
 use Rattle.attenuator.specs.declared.Controller.{Controller}
-use Rattle.attenuator.specs.declared.Stepped.{Stepped}
+use Rattle.attenuator.specs.declared.AttenuationStep.{AttenuationStep}
 
 -- a hold of 0.5 s, a run of 2 s, 600 s without overload
 abbrev pub usual : Timing
@@ -17,26 +14,21 @@ usual = record { hold = 500000000; trip_after = 2000000000; release_after = 6000
 -- no overload has been heard, and the quiet time starts at the opening
 unfoldable pub opened : ℕ → ℕ → Timing → Controller
 opened db now timing =
-    record { db = min db 30; timing = timing; run_start = Never; last_overload = Never; quiet_since = now }
+    record { db = min db 30; timing = timing; run_start = None; last_overload = None; quiet_since = now }
 
 -- an overload at most the hold after the last one continues the run
-abbrev pub continues : Moment → ℕ → ℕ → Bool
-continues Never hold now = false
-continues (At last) hold now = leb (now - last) hold
+abbrev pub continues : Option ℕ → ℕ → ℕ → Bool
+continues None hold now = false
+continues (Some last) hold now = leb (now - last) hold
 
--- a run without a start begins now
-abbrev pub or_now : Moment → ℕ → ℕ
-or_now Never now = now
-or_now (At start) now = start
-
--- the start of the run that an overload now belongs to
+-- the start of the run that an overload now belongs to; a run without a start begins now
 unfoldable pub run_start_of : Controller → ℕ → ℕ
-run_start_of c now = pick (continues c.last_overload c.timing.hold now) (or_now c.run_start now) now
+run_start_of c now = pick (continues c.last_overload c.timing.hold now) (unwrap_or c.run_start now) now
 
 -- an overload now, in a run since start, at this level: the quiet time starts anew
 abbrev pub heard : Controller → ℕ → ℕ → ℕ → Controller
 heard c db start now =
-    record { db = db; timing = c.timing; run_start = At start; last_overload = At now; quiet_since = now }
+    record { db = db; timing = c.timing; run_start = Some start; last_overload = Some now; quiet_since = now }
 
 -- below 30 dB, and the run since start has lasted its time
 unfoldable pub trips : Controller → ℕ → ℕ → Bool
@@ -46,12 +38,17 @@ trips c start now = ltb c.db 30 && leb c.timing.trip_after (now - start)
 abbrev pub up : ℕ → ℕ
 up db = min (db + 6) 30
 
+-- the step that a call took, and the controller after it
+pub record Stepped : Type 0 where
+  pub step : Option AttenuationStep
+  pub controller : Controller
+
 abbrev pub stays : Controller → Stepped
-stays c = record { step = NoStep; controller = c }
+stays c = record { step = None; controller = c }
 
 -- a step up: the run starts anew
 abbrev pub raised : Controller → ℕ → Stepped
-raised c now = record { step = Step c.db (up c.db) Overload; controller = heard c (up c.db) now now }
+raised c now = record { step = Some (record { from_db = c.db; to_db = (up c.db); cause = Overload }); controller = heard c (up c.db) now now }
 
 -- an overload now, in a run since start
 unfoldable pub overload : Controller → ℕ → ℕ → Stepped
@@ -76,7 +73,7 @@ quieted c db now =
 
 -- a step down: the quiet time starts anew
 abbrev pub lowered : Controller → ℕ → Stepped
-lowered c now = record { step = Step c.db (down c.db) Quiet; controller = quieted c (down c.db) now }
+lowered c now = record { step = Some (record { from_db = c.db; to_db = (down c.db); cause = Quiet }); controller = quieted c (down c.db) now }
 
 unfoldable pub ticked : Controller → ℕ → Stepped
 ticked c now = pick (releases c now) (lowered c now) (stays c)

@@ -3,7 +3,7 @@
 #![tactic(auto)]
 
 ghost use Rattle.std.specs.Prelude.{◌≡◌, min};
-ghost use Rattle.attenuator.specs.Controller.{usual, up, down, opened, run_start_of, heard, trips, observed, releases, ticked};
+ghost use Rattle.attenuator.specs.Controller.{usual, up, down, opened, run_start_of, heard, trips, observed, releases, quieted, ticked};
 
 use double::time::since;
 
@@ -28,27 +28,18 @@ pub struct Timing {
     pub release_after: u64,
 }
 
-// A reading, or that there was none yet.
-#[derive(Clone, Copy)]
-pub enum Moment {
-    Never,
-    At(u64),
-}
-
 #[derive(Clone, Copy)]
 pub enum AttenuationCause {
     Overload,
     Quiet,
 }
 
+// The level before it and after it, and why it was taken.
 #[derive(Clone, Copy)]
-pub enum AttenuationStep {
-    NoStep,
-    Step {
-        from_db: u8,
-        to_db: u8,
-        cause: AttenuationCause,
-    },
+pub struct AttenuationStep {
+    pub from_db: u8,
+    pub to_db: u8,
+    pub cause: AttenuationCause,
 }
 
 #[derive(Clone, Copy)]
@@ -56,18 +47,11 @@ pub struct Controller {
     pub db: u8,
     pub timing: Timing,
     // the start of the run of overload, moved to each raise
-    pub run_start: Moment,
+    pub run_start: Option<u64>,
     // the last overload report
-    pub last_overload: Moment,
+    pub last_overload: Option<u64>,
     // the latest of the last overload report, the last change and the opening
     pub quiet_since: u64,
-}
-
-// The step that a call took, and the controller after it.
-#[derive(Clone, Copy)]
-pub struct Stepped {
-    pub step: AttenuationStep,
-    pub controller: Controller,
 }
 
 impl Timing {
@@ -83,33 +67,17 @@ impl Timing {
     }
 }
 
-// A level no higher than the most.
-fn at_most(db: u8) -> u8
-    ensures { result ≡ min db 30 }
-{
-    if db < MAX_DB {
-        return db;
-    }
-    MAX_DB
-}
-
-// One step up. Past MAX_DB - STEP_DB it ends at the most, so that no level overflows.
+// One step up, to the most.
 fn up(db: u8) -> u8
     ensures { result ≡ up db }
 {
-    if db < MAX_DB - STEP_DB {
-        return db + STEP_DB;
-    }
-    MAX_DB
+    db.saturating_add(STEP_DB).min(MAX_DB)
 }
 
 fn down(db: u8) -> u8
     ensures { result ≡ down db }
 {
-    if db < STEP_DB {
-        return 0;
-    }
-    db - STEP_DB
+    db.saturating_sub(STEP_DB)
 }
 
 impl Controller {
@@ -118,10 +86,10 @@ impl Controller {
         ensures { result ≡ opened db now timing }
     {
         Self {
-            db: at_most(db),
+            db: db.min(MAX_DB),
             timing,
-            run_start: Moment::Never,
-            last_overload: Moment::Never,
+            run_start: None,
+            last_overload: None,
             quiet_since: now,
         }
     }
@@ -130,32 +98,23 @@ impl Controller {
     fn run_at(self, now: u64) -> u64
         ensures { result ≡ run_start_of self now }
     {
-        let last_overload = self.last_overload;
-        let Moment::At(last) = last_overload else {
+        let Some(last) = self.last_overload else {
             return now;
         };
         if since(now, last) > self.timing.hold {
             return now;
         }
-        let run_start = self.run_start;
-        let Moment::At(start) = run_start else {
-            return now;
-        };
-        start
+        self.run_start.unwrap_or(now)
     }
 
-    // After an overload now, in a run since `start`: the quiet time starts anew.
-    fn heard(self, db: u8, start: u64, now: u64) -> Self
-        ensures { result ≡ heard self db start now }
+    // An overload now, in a run since `start`: the quiet time starts anew.
+    fn hear(&mut self, db: u8, start: u64, now: u64)
+        ensures { self.new ≡ heard self.old db start now }
     {
-        let timing = self.timing;
-        Self {
-            db,
-            timing,
-            run_start: Moment::At(start),
-            last_overload: Moment::At(now),
-            quiet_since: now,
-        }
+        self.db = db;
+        self.run_start = Some(start);
+        self.last_overload = Some(now);
+        self.quiet_since = now;
     }
 
     // Whether an overload now, in a run since `start`, raises the attenuation.
@@ -169,34 +128,25 @@ impl Controller {
     }
 
     // A status packet's overload bit, read now. A clear one changes nothing: the run ends when the hold lapses.
-    pub fn observe(self, overloaded: bool, now: u64) -> Stepped
-        ensures { result ≡ observed self overloaded now }
+    pub fn observe(&mut self, overloaded: bool, now: u64) -> Option<AttenuationStep>
+        ensures { record { step = result; controller = self.new } ≡ observed self.old overloaded now }
     {
         if !overloaded {
-            return Stepped {
-                step: AttenuationStep::NoStep,
-                controller: self,
-            };
+            return None;
         }
         let start = self.run_at(now);
         let from_db = self.db;
         if !self.trips(start, now) {
-            let controller = self.heard(from_db, start, now);
-            return Stepped {
-                step: AttenuationStep::NoStep,
-                controller,
-            };
+            self.hear(from_db, start, now);
+            return None;
         }
         let to_db = up(from_db);
-        let controller = self.heard(to_db, now, now);
-        Stepped {
-            step: AttenuationStep::Step {
-                from_db,
-                to_db,
-                cause: AttenuationCause::Overload,
-            },
-            controller,
-        }
+        self.hear(to_db, now, now);
+        Some(AttenuationStep {
+            from_db,
+            to_db,
+            cause: AttenuationCause::Overload,
+        })
     }
 
     // Whether the quiet time is over, and there is a level to lower.
@@ -209,28 +159,28 @@ impl Controller {
         since(now, self.quiet_since) >= self.timing.release_after
     }
 
+    // To a level at which a quiet time starts then.
+    fn lower(&mut self, db: u8, then: u64)
+        ensures { self.new ≡ quieted self.old db then }
+    {
+        self.db = db;
+        self.quiet_since = then;
+    }
+
     // Lowers the attenuation by one step where the quiet time is over.
-    pub fn tick(self, now: u64) -> Stepped
-        ensures { result ≡ ticked self now }
+    pub fn tick(&mut self, now: u64) -> Option<AttenuationStep>
+        ensures { record { step = result; controller = self.new } ≡ ticked self.old now }
     {
         if !self.releases(now) {
-            return Stepped {
-                step: AttenuationStep::NoStep,
-                controller: self,
-            };
+            return None;
         }
         let from_db = self.db;
         let to_db = down(from_db);
-        let mut controller = self;
-        controller.db = to_db;
-        controller.quiet_since = now;
-        Stepped {
-            step: AttenuationStep::Step {
-                from_db,
-                to_db,
-                cause: AttenuationCause::Quiet,
-            },
-            controller,
-        }
+        self.lower(to_db, now);
+        Some(AttenuationStep {
+            from_db,
+            to_db,
+            cause: AttenuationCause::Quiet,
+        })
     }
 }

@@ -1,10 +1,10 @@
 -- What a table of refusals gives: by the first row that applies, and by none of them; and what a number tells of its row. Assumes
 -- nothing.
+use Rattle.std.specs.Prelude.{Option, Some, None}
 use Prim.Native.Nat.{ℕ, zero, suc}
 use mathlib.Core.Path.{◌≡◌, refl, ◌∙◌}
 use mathlib.Core.Bool.{Bool, true, false, not, ◌&&◌}
 use mathlib.Core.List.{List, [], ◌∷◌}
-use mathlib.Core.Option.{Option, some, none}
 use native.Mathlib.Omega.{arith}
 use lib.Dec.{T, T_not, eqb}
 use lib.ListN.{get_or, take, drop}
@@ -43,12 +43,12 @@ module _ {A : Type 0} where
       go false h = h
 
   -- where what is given says by which number it was refused, it says the first row's
-  pub unless-refused : (by : A → Option ℕ) (rs : List Row) (refuse : ℕ → A) (answer : A) → ((k : ℕ) → by (refuse k) ≡ some k) → by answer ≡ none → by (unless rs refuse answer) ≡ first_row rs
+  pub unless-refused : (by : A → Option ℕ) (rs : List Row) (refuse : ℕ → A) (answer : A) → ((k : ℕ) → by (refuse k) ≡ Some k) → by answer ≡ None → by (unless rs refuse answer) ≡ first_row rs
   unfolding pick
   unless-refused by [] refuse answer r a = a
   unless-refused by (x ∷ xs) refuse answer r a = go x.applies (unless-refused by xs refuse answer r a)
     where
-      go : (b : Bool) → by (unless xs refuse answer) ≡ first_row xs → by (pick b (refuse x.number) (unless xs refuse answer)) ≡ pick b (some x.number) (first_row xs)
+      go : (b : Bool) → by (unless xs refuse answer) ≡ first_row xs → by (pick b (refuse x.number) (unless xs refuse answer)) ≡ pick b (Some x.number) (first_row xs)
       go true h = r x.number
       go false h = h
 
@@ -69,30 +69,30 @@ alone n [] = true
 alone zero (r ∷ rs) = without r.number rs
 alone (suc n) (r ∷ rs) = not (eqb r.number (row_at n rs).number) && alone n rs
 
-other : (a b : ℕ) → T (not (eqb a b)) → some a ≡ some b → ⊥
+other : (a b : ℕ) → T (not (eqb a b)) → Some a ≡ Some b → ⊥
 other a b t e = T_not (eqb a b) t (rw (eq-eqb a b cc) tt)
 
-not-told : (k : ℕ) (rs : List Row) → T (without k rs) → first_row rs ≡ some k → ⊥
+not-told : (k : ℕ) (rs : List Row) → T (without k rs) → first_row rs ≡ Some k → ⊥
 unfolding pick
 not-told k [] t e = let z : ◌≡◌ {A = ℕ} 0 1 = cc in absurd (omega arith)
 not-told k (x ∷ xs) t e = go x.applies e (not-told k xs (and_r (not (eqb x.number k)) (without k xs) t))
   where
-    go : (b : Bool) → pick b (some x.number) (first_row xs) ≡ some k → (first_row xs ≡ some k → ⊥) → ⊥
+    go : (b : Bool) → pick b (Some x.number) (first_row xs) ≡ Some k → (first_row xs ≡ Some k → ⊥) → ⊥
     go true e rest = other x.number k (and_l (not (eqb x.number k)) (without k xs) t) e
     go false e rest = rest e
 
-pub only_row : (n : ℕ) (rs : List Row) → T (alone n rs) → first_row rs ≡ some (row_at n rs).number → NoRow (take n rs) × ((row_at n rs).applies ≡ true)
+pub only_row : (n : ℕ) (rs : List Row) → T (alone n rs) → first_row rs ≡ Some (row_at n rs).number → NoRow (take n rs) × ((row_at n rs).applies ≡ true)
 unfolding pick
 only_row n [] t e = let z : ◌≡◌ {A = ℕ} 0 1 = cc in absurd (omega arith)
 only_row zero (x ∷ xs) t e = (tt, go x.applies e)
   where
-    go : (b : Bool) → pick b (some x.number) (first_row xs) ≡ some x.number → b ≡ true
+    go : (b : Bool) → pick b (Some x.number) (first_row xs) ≡ Some x.number → b ≡ true
     go true e = refl
     go false e = absurd (not-told x.number xs t e)
 only_row (suc n) (x ∷ xs) t e = go x.applies e (only_row n xs (and_r (not (eqb x.number (row_at n xs).number)) (alone n xs) t))
   where
-    go : (b : Bool) → pick b (some x.number) (first_row xs) ≡ some (row_at n xs).number
-        → (first_row xs ≡ some (row_at n xs).number → NoRow (take n xs) × ((row_at n xs).applies ≡ true))
+    go : (b : Bool) → pick b (Some x.number) (first_row xs) ≡ Some (row_at n xs).number
+        → (first_row xs ≡ Some (row_at n xs).number → NoRow (take n xs) × ((row_at n xs).applies ≡ true))
         → ((b ≡ false) × NoRow (take n xs)) × ((row_at n xs).applies ≡ true)
     go true e rest = absurd (other x.number (row_at n xs).number (and_l (not (eqb x.number (row_at n xs).number)) (alone n xs) t) e)
     go false e rest = let r = rest e in ((refl, r.0), r.1)

@@ -1,6 +1,5 @@
 -- Rows of a table of refusals, tested in order. Definitions only.
-use Rattle.std.specs.Prelude.{ℕ, Bool, List, [], ◌∷◌}
-use Rattle.std.proofs.Math.Option.{Option, some, none}
+use Rattle.std.specs.Prelude.{ℕ, Bool, List, [], ◌∷◌, Option, Some, None}
 use Rattle.base.specs.Pick.{pick}
 
 -- a number, and whether its row applies
@@ -13,8 +12,8 @@ row number applies = record { number = number; applies = applies }
 
 -- the number of the first row that applies
 abbrev pub first_row : List Row → Option ℕ
-first_row [] = none
-first_row (r ∷ rs) = pick r.applies (some r.number) (first_row rs)
+first_row [] = None
+first_row (r ∷ rs) = pick r.applies (Some r.number) (first_row rs)
 
 -- what is refused by the first row that applies, and given where none does
 abbrev pub unless : {A : Type 0} → List Row → (ℕ → A) → A → A

@@ -1,70 +1,39 @@
 // The account of a session: each answer noted, and then all of it as lines of text.
-ghost use Rattle.std.specs.Prelude.{◌≤◌};
-
-use super::copy;
-use super::list::{OCTETS, WORDS};
-use super::replies::eight_at;
+use super::list::List;
+use super::replies::{Answers, behind, eight_at};
 use console::output::Output;
 use desk::key::put_rows;
 use encoding::words::{taken_by, words_at};
+use lines::MOST_OCTETS;
 use marking::note::note;
-use std::num::wrapping_add_usize;
 use tally::account::{Account, TABLE, none};
 use tally::rows::End;
 
-// What the call of these numbers was answered; its datagram is the n octets from `at` on. There is room for as many stretches as a
-// session has calls.
-fn note_one(
-    table: &mut [u64; TABLE],
-    a: Account,
-    call: &[u64; 8],
-    octets: &[u8; OCTETS],
-    at: usize,
-    n: usize,
-    answer: &[u64; 8],
-) -> Account {
-    let mut own = [0u8; 2048];
-    copy::front(&mut own, octets, at, n);
-    let noted = note(table, a, call, &own, answer);
-    noted.account
-}
-
-// The answers of the first n calls.
-fn note_all(
-    n: usize,
-    calls: &[u64; WORDS],
-    octets: &[u8; OCTETS],
-    answers: &[u64; WORDS],
-    table: &mut [u64; TABLE],
-) -> Account
-    requires { n ≤ 1024 }
-{
-    let mut a = none();
-    let mut at = 0;
-    let mut i = 0;
-    while i < n {
-        let size = taken_by(words_at(calls, 8 * i)).octets;
-        let call = eight_at(calls, i);
-        let answer = eight_at(answers, i);
-        a = note_one(table, a, &call, octets, at, size, &answer);
-        at = wrapping_add_usize(at, size);
-        i += 1;
+// A datagram, which is the first n octets, in a room of its own.
+fn datagram(octets: &[u8], n: usize) -> [u8; MOST_OCTETS] {
+    let mut own = [0; MOST_OCTETS];
+    if n <= octets.len().min(MOST_OCTETS) {
+        own[..n].copy_from_slice(&octets[..n]);
     }
-    a
+    own
 }
 
-pub fn tell(
-    n: usize,
-    calls: &[u64; WORDS],
-    octets: &[u8; OCTETS],
-    answers: &[u64; WORDS],
-    e: End,
-    out: &mut Output,
-    at: usize,
-) -> usize
-    requires { n ≤ 1024 }
-{
+// The answers of all calls. There is room for as many stretches as a session has calls.
+fn note_all(list: &List, answers: &Answers, table: &mut [u64; TABLE]) -> Account {
+    let mut account = none();
+    let mut octets = &list.octets[..];
+    for i in 0..list.calls {
+        let taken = taken_by(words_at(&list.words, 8 * i)).octets;
+        let call = eight_at(&list.words, i);
+        let answer = eight_at(&answers.words, i);
+        account = note(table, account, &call, &datagram(octets, taken), &answer).account;
+        octets = behind(octets, taken);
+    }
+    account
+}
+
+pub fn tell(list: &List, answers: &Answers, e: End, out: &mut Output) {
     let mut table = [0u64; TABLE];
-    let a = note_all(n, calls, octets, answers, &mut table);
-    put_rows(out, at, &table, a, e)
+    let account = note_all(list, answers, &mut table);
+    put_rows(out, &table, account, e)
 }

@@ -2,6 +2,5 @@
 #![tactic(auto)]
 
 pub mod accounts;
-mod copy;
 pub mod list;
 pub mod replies;

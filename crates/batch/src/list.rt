@@ -1,7 +1,8 @@
 // The calls of a session, gathered one behind the other as replay takes them: eight numbers each, datagrams, waiting numbers.
-use super::copy;
+ghost use Rattle.std.specs.Prelude.{◌≡◌, ◌+◌, ◌≤◌, length, IfOk, OnOk, OnErr};
+
+use desk::line::Asked;
 use encoding::words::{taken_by, words_at};
-use lines::{MOST_NUMBERS, MOST_OCTETS};
 
 // The most calls of a session, and their numbers. The other rooms are enough for so many that begin, pass, arrive and take in turn.
 pub const CALLS: usize = 1024;
@@ -14,88 +15,81 @@ pub const OCTETS: usize = 524288;
 // Waiting numbers: eight calls with the most of them.
 pub const NUMBERS: usize = 65544;
 
-// Octets of packet buffers, and f32 of Takes.
-pub const PACKETS: usize = 2097152;
-
-pub const PLACES: usize = 131072;
-
-// How much is gathered of each. More than there is room for: the last call had none.
-#[derive(Clone, Copy)]
+// So many calls with their numbers, and what they take of datagrams and waiting numbers, at the front of the rooms.
+#[derive(Drop)]
 pub struct List {
     pub calls: usize,
-    pub octets: usize,
-    pub numbers: usize,
+    pub words: [u64; WORDS],
+    pub octets: [u8; OCTETS],
+    pub numbers: [u32; NUMBERS],
+    taken_octets: usize,
+    taken_numbers: usize,
+    pub ghost calls_within: { calls ≤ 1024 },
+    pub ghost octets_within: { taken_octets ≤ 524288 },
+    pub ghost numbers_within: { taken_numbers ≤ 65544 },
 }
 
-// That of a session just opened.
-pub fn none() -> List {
-    List {
-        calls: 0,
-        octets: 0,
-        numbers: 0,
+// A call has no room behind the others.
+#[derive(Clone, Copy, Debug, PartialEq, Eq)]
+pub struct NoRoom;
+
+// Puts the first n of `from` behind the first `at` of `to`; where they end then.
+fn append<T: Copy>(to: &mut [T], at: usize, from: &[T], n: usize) -> Result<usize, NoRoom>
+    requires { at ≤ length to.old }
+    ensures { IfOk result (λ end. (end ≡ at + n) × (end ≤ length to.new)) }
+{
+    if n > from.len() || n > to.len() - at {
+        return Err(NoRoom);
     }
+    to[at..at + n].copy_from_slice(&from[..n]);
+    Ok(at + n)
 }
 
-pub fn fits(l: List) -> bool {
-    l.calls <= CALLS && l.octets <= OCTETS && l.numbers <= NUMBERS
-}
+impl List {
+    pub fn new() -> List
+        ensures { result.calls ≡ 0 }
+    {
+        List {
+            calls: 0,
+            words: [0; WORDS],
+            octets: [0; OCTETS],
+            numbers: [0; NUMBERS],
+            taken_octets: 0,
+            taken_numbers: 0,
+        }
+    }
 
-fn add_call(calls: &mut [u64; WORDS], i: usize, call: &[u64; 8]) -> usize {
-    if i >= CALLS {
-        return CALLS + 1;
+    // A session was just opened.
+    pub fn clear(&mut self)
+        ensures { self.new.calls ≡ 0 }
+    {
+        self.calls = 0;
+        self.taken_octets = 0;
+        self.taken_numbers = 0;
     }
-    copy::words(calls, 8 * i, call);
-    i + 1
-}
 
-fn add_octets(
-    octets: &mut [u8; OCTETS],
-    at: usize,
-    datagram: &[u8; MOST_OCTETS],
-    n: usize,
-) -> usize {
-    let all = &datagram[..];
-    if n > MOST_OCTETS {
-        return OCTETS + 1;
-    }
-    if at > OCTETS - n {
-        return OCTETS + 1;
-    }
-    copy::octets(octets, at, &all[0..n]);
-    at + n
-}
-
-fn add_numbers(
-    numbers: &mut [u32; NUMBERS],
-    at: usize,
-    waiting: &[u32; MOST_NUMBERS],
-    n: usize,
-) -> usize {
-    let all = &waiting[..];
-    if n > MOST_NUMBERS {
-        return NUMBERS + 1;
-    }
-    if at > NUMBERS - n {
-        return NUMBERS + 1;
-    }
-    copy::numbers(numbers, at, &all[0..n]);
-    at + n
-}
-
-// A call more, with what it takes of its datagram and its waiting numbers.
-pub fn add(
-    l: List,
-    call: &[u64; 8],
-    datagram: &[u8; MOST_OCTETS],
-    waiting: &[u32; MOST_NUMBERS],
-    calls: &mut [u64; WORDS],
-    octets: &mut [u8; OCTETS],
-    numbers: &mut [u32; NUMBERS],
-) -> List {
-    let need = taken_by(words_at(call, 0));
-    List {
-        calls: add_call(calls, l.calls, call),
-        octets: add_octets(octets, l.octets, datagram, need.octets),
-        numbers: add_numbers(numbers, l.numbers, waiting, need.numbers),
+    // A call more, with what it takes of its datagram and its waiting numbers.
+    pub fn add(&mut self, asked: &Asked) -> Result<(), NoRoom>
+        ensures added { OnOk result (self.new.calls ≡ self.old.calls + 1) }
+        ensures full { OnErr result (self.new.calls ≡ self.old.calls) }
+    {
+        let need = taken_by(words_at(&asked.call, 0));
+        append(&mut self.words, 8 * self.calls, &asked.call, 8)?;
+        let octets = append(
+            &mut self.octets,
+            self.taken_octets,
+            &asked.octets,
+            need.octets,
+        )?;
+        let numbers = append(
+            &mut self.numbers,
+            self.taken_numbers,
+            &asked.numbers,
+            need.numbers,
+        )?;
+        self.calls += 1;
+        self.taken_octets = octets;
+        self.taken_numbers = numbers;
+        Ok(())
     }
 }

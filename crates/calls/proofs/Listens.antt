@@ -1,6 +1,6 @@
--- The practice radio: it accepts at most as many packets as are listed, and what each kind of line leaves. Assumes nothing.
+-- The practice radio: it accepts at most as many packets as are listed. Assumes nothing.
+use Rattle.std.specs.Prelude.{Option, Some, None}
 use Rattle.std.proofs.Common.{◌≡◌, ℕ, suc, ◌+◌, ◌-◌, ◌%◌, ◌^◌, ◌≤◌, min, List, [], ◌∷◌, length, get_or, take, drop, sym, ap, ◌∙◌, arith, length-take-le}
-use mathlib.Core.Option.{Option, some, none}
 use Rattle.wire.specs.Command.{size_of}
 use Rattle.wire.specs.declared.command.Stream.{Stream}
 use Rattle.radio.specs.Command.{command_read}
@@ -9,13 +9,13 @@ use Rattle.radio.specs.declared.listen.Received.{Received}
 use Rattle.radio.specs.declared.state.Radio.{Radio}
 use Rattle.radio.proofs.Listens.{at_most_one}
 use Rattle.calls.specs.declared.practice.Practice.{Practice}
-use Rattle.calls.specs.Practised.{places_of, listed, outcomes, untold, heard, Listened}
+use Rattle.calls.specs.Practised.{places_of, listed, outcomes, heard}
 
 -- one packet more, where its offset is a stream's
 one_more : (r : Radio) (s : Option Stream) (f : Stream → Command) (g : Stream → List Command) (n : ℕ) → ((x : Radio) (k : Stream) → accepted (received x (g k)) ≤ n) → accepted (received r (where_known s (λ k. f k ∷ g k))) ≤ suc n
 unfolding received
-one_more r none f g n h = omega arith
-one_more r (some k) f g n h =
+one_more r None f g n h = omega arith
+one_more r (Some k) f g n h =
     let x = command_read r (f k).stream (f k).octets in
     omega (arith, at_most_one x.told, h x.radio k)
 
@@ -30,13 +30,12 @@ listed-count : (a : List ℕ) → length (listed a) ≡ min (get_or a 2 0) 5
 listed-count a = length-take-le (min (get_or a 2 0) 5) _ (omega arith)
 
 -- what was read of the streams that an answer lists
-module _ (p : Practice) (packets a os : List ℕ) (n : ℕ) (got : Received) (e : os ≡ places_of a) (k : n ≡ min (get_or a 2 0) 5) (g : got ≡ received_of p.radio (received p.radio (cut (take (n - 0) os) packets))) where
+module _ (p : Practice) (packets a os : List ℕ) (n : ℕ) (got : Received) (e : os ≡ places_of a) (k : n ≡ min (get_or a 2 0) 5) (g : got ≡ received_of p.radio (received p.radio (cut (take n os) packets))) where
   here : got ≡ received_of p.radio (outcomes p packets a)
   here =
-      let i : n - 0 ≡ min (get_or a 2 0) 5 = omega (arith, k) in
       g
-      ∙ ap (λ (l : List ℕ). received_of p.radio (received p.radio (cut (take (n - 0) l) packets))) e
-      ∙ ap (λ (i : ℕ). received_of p.radio (received p.radio (cut (take i (places_of a)) packets))) i
+      ∙ ap (λ (l : List ℕ). received_of p.radio (received p.radio (cut (take n l) packets))) e
+      ∙ ap (λ (i : ℕ). received_of p.radio (received p.radio (cut (take i (places_of a)) packets))) k
 
   pub not_more : got.accepted ≤ n
   not_more = omega (arith, accepted-most p.radio (listed a) packets, listed-count a, k, ap (λ (x : Received). x.accepted) here)
@@ -46,15 +45,3 @@ module _ (p : Practice) (packets a os : List ℕ) (n : ℕ) (got : Received) (e 
       ap (λ (x : ℕ). record { radio = got.radio; refused = x })
       (f ∙ ap (λ (x : ℕ). (p.refused + (x - got.accepted)) % 2 ^ 64) (k ∙ sym (listed-count a)))
       ∙ ap (λ (x : Received). record { radio = x.radio; refused = (p.refused + (length (listed a) - x.accepted)) % 2 ^ 64 }) here
-
--- ---- a line
-
-module _ (asks : ℕ) (p q : Practice) (packets a : List ℕ) where
-  pub by_call : asks ≡ 1 → q ≡ heard p packets a → Listened asks p packets a q
-  by_call e h = record { called = λ _. h; opened = λ f. absurd (omega (arith, e, f)); other = λ f g. absurd (f e) }
-
-  pub by-open : asks ≡ 4 → q ≡ untold → Listened asks p packets a q
-  by-open e h = record { called = λ f. absurd (omega (arith, e, f)); opened = λ _. h; other = λ f g. absurd (g e) }
-
-  pub by-other : (asks ≡ 1 → ⊥) → (asks ≡ 4 → ⊥) → q ≡ p → Listened asks p packets a q
-  by-other f g h = record { called = λ e. absurd (f e); opened = λ e. absurd (g e); other = λ _ _. h }

@@ -1,5 +1,7 @@
 -- The practice radio beside a session: which packets it is told, and what it keeps then (2026-02). Definitions only.
 use Rattle.std.specs.Prelude.{◌≡◌, ℕ, ◌+◌, ◌-◌, ◌%◌, ◌^◌, min, ◌≢◌, List, [], ◌∷◌, length, take, slice_index}
+use Rattle.desk.specs.declared.desk.Request.{Request}
+use Rattle.desk.specs.declared.desk.Request.TheVariants.{Call, Open}
 use Rattle.radio.specs.Answer.{Outcome}
 use Rattle.radio.specs.Listen.{cut, received, after, accepted}
 use Rattle.radio.specs.State.{at_first}
@@ -32,8 +34,8 @@ heard p packets a =
       refused = (p.refused + (length (listed a) - accepted (outcomes p packets a))) % 2 ^ 64;
     }
 
--- after a line that asks for this: 1 is a call, and 4 an `open`
-pub record Listened (asks : ℕ) (p : Practice) (packets a : List ℕ) (q : Practice) : Type 0 where
-  pub called : asks ≡ 1 → q ≡ heard p packets a
-  pub opened : asks ≡ 4 → q ≡ untold
-  pub other : asks ≢ 1 → asks ≢ 4 → q ≡ p
+-- after a line that asks for this
+pub record Listened (asks : Request) (p : Practice) (packets a : List ℕ) (q : Practice) : Type 0 where
+  pub called : asks ≡ Call → q ≡ heard p packets a
+  pub opened : asks ≡ Open → q ≡ untold
+  pub other : asks ≢ Call → asks ≢ Open → q ≡ p

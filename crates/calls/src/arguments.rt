@@ -14,34 +14,44 @@ const ENAMETOOLONG: i32 = 36;
 
 const EINVAL: i32 = 22;
 
+// Where the list is.
+#[derive(Clone, Copy)]
+pub(crate) enum List {
+    Input,
+    // in the file that this argument names
+    File(usize),
+    // more than one is named
+    Many,
+}
+
 #[derive(Clone, Copy)]
 pub(crate) struct Arguments {
     pub(crate) flags: Flags,
-    // the argument that names the file; at the end there is none
-    pub(crate) file: usize,
-    pub(crate) end: usize,
+    pub(crate) list: List,
 }
 
-// Its place, from 1; 0 of what is no flag.
-fn flag(word: &[u8]) -> u8 {
-    if check::same(word, b"--gaps") {
-        return 1;
+#[derive(Clone, Copy)]
+enum Flag {
+    Gaps,
+    Numbered,
+    Status,
+}
+
+fn flag_of(word: &[u8]) -> Option<Flag> {
+    match word {
+        b"--gaps" => Some(Flag::Gaps),
+        b"--numbered" => Some(Flag::Numbered),
+        b"--status" => Some(Flag::Status),
+        _ => None,
     }
-    if check::same(word, b"--numbered") {
-        return 2;
-    }
-    if check::same(word, b"--status") {
-        return 3;
-    }
-    0
 }
 
 // One that is longer than the room is no flag.
-fn flag_at(rt: &HostRuntime, i: usize) -> u8 {
+fn flag_at(rt: &HostRuntime, i: usize) -> Option<Flag> {
     let mut room = [0u8; NAME];
     match rt.arg(i, &mut room) {
-        Ok(n) => flag(&room[..n]),
-        Err(_) => 0,
+        Ok(n) => flag_of(&room[..n]),
+        Err(_) => None,
     }
 }
 
@@ -62,62 +72,49 @@ fn count(rt: &HostRuntime) -> usize {
 
 pub(crate) fn read(rt: &HostRuntime) -> Arguments {
     let end = count(rt);
-    let mut flags = Flags {
-        gaps: false,
-        numbered: false,
-        status: false,
-    };
-    let mut i = 1;
-    while i < end {
+    let mut flags = Flags::default();
+    for i in 1..end {
         match flag_at(rt, i) {
-            1 => flags.gaps = true,
-            2 => flags.numbered = true,
-            3 => flags.status = true,
-            _ => break,
+            Some(Flag::Gaps) => flags.gaps = true,
+            Some(Flag::Numbered) => flags.numbered = true,
+            Some(Flag::Status) => flags.status = true,
+            None => {
+                let list = if end - i > 1 {
+                    List::Many
+                } else {
+                    List::File(i)
+                };
+                return Arguments { flags, list };
+            }
         }
-        i += 1;
     }
     Arguments {
         flags,
-        file: i,
-        end,
+        list: List::Input,
     }
 }
 
-// How long a file's name is, or that it is none.
-#[derive(Clone, Copy)]
-pub(crate) struct FileName {
-    pub(crate) length: usize,
-    pub(crate) is_name: bool,
-}
-
-fn no_name(rt: &HostRuntime, error: i32) -> FileName {
+fn no_name(rt: &HostRuntime, error: i32) {
     fail(
         &mut rt.stderr(),
         b"the file's name",
         Error::from_raw_os_error(error),
-    );
-    FileName {
-        length: 0,
-        is_name: false,
-    }
+    )
 }
 
-// The file's name goes to the front of the lent room. One that is too long, or empty, is told as what it is.
-pub(crate) fn file_name(rt: &HostRuntime, i: usize, room: &mut [u8; NAME]) -> FileName {
+// The file's name, in the lent room. One that is too long, or empty, is told as what it is.
+pub(crate) fn file_name<'a>(
+    rt: &HostRuntime,
+    i: usize,
+    room: &'a mut [u8; NAME],
+) -> Option<&'a [u8]> {
     match rt.arg(i, room) {
-        Ok(n) => {
-            if n == 0 {
-                told(&mut rt.stderr(), b"the file's name is empty\n");
-            }
-            FileName {
-                length: n,
-                is_name: n > 0,
-            }
-        }
+        Ok(0) => told(&mut rt.stderr(), b"the file's name is empty\n"),
+        Ok(n) => return Some(&room[..n]),
         Err(FillError::TooLong) => no_name(rt, ENAMETOOLONG),
         Err(FillError::NotPresent) => no_name(rt, EINVAL),
     }
+    None
 }
 
 // Why a file whose name is no text is not opened.
@@ -129,5 +126,5 @@ pub(crate) fn one_list_at_a_time(rt: &HostRuntime) {
     told(
         &mut rt.stderr(),
         b"calls: one list at a time, after the flags\n",
-    );
+    )
 }

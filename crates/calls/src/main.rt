@@ -7,23 +7,21 @@ mod practice;
 mod run;
 mod sessions;
 
-use arguments::{Arguments, NAME, not_text};
+use arguments::{Arguments, List, NAME, not_text};
 use console::fault::fail;
 use desk::desk::Flags;
+use run::Status;
 use std::fs::File;
 use std::process::ExitCode;
 
 // A file by its name, which is opened to be read. A name is text, since std opens no other.
-fn run_opened(rt: &HostRuntime, name: &[u8], flags: Flags) -> u8 {
+fn run_opened(rt: &HostRuntime, name: &[u8], flags: Flags) -> Status {
     let Ok(text) = str::from_utf8(name) else {
         fail(&mut rt.stderr(), name, not_text());
         return run::no_list(rt);
     };
     match File::open(rt, text) {
-        Ok(file) => {
-            let mut from = file;
-            run::run(rt, &mut from, name, flags)
-        }
+        Ok(mut file) => run::run(rt, &mut file, name, flags),
         Err(error) => {
             fail(&mut rt.stderr(), name, error);
             run::no_list(rt)
@@ -31,47 +29,29 @@ fn run_opened(rt: &HostRuntime, name: &[u8], flags: Flags) -> u8 {
     }
 }
 
-fn run_input(rt: &HostRuntime, flags: Flags) -> u8 {
+fn run_input(rt: &HostRuntime, flags: Flags) -> Status {
     run::run(rt, &mut rt.stdin(), b"standard input", flags)
 }
 
-// `-` is standard input.
-fn run_file(rt: &HostRuntime, name: &[u8], flags: Flags) -> u8 {
-    if check::same(name, b"-") {
-        return run_input(rt, flags);
-    }
-    run_opened(rt, name, flags)
-}
-
-// The file whose name is the first n octets.
-fn run_front(rt: &HostRuntime, room: &[u8; NAME], n: usize, flags: Flags) -> u8 {
-    let all = &room[..];
-    if n > NAME {
-        return run::no_list(rt);
-    }
-    run_file(rt, &all[0..n], flags)
-}
-
-// The file that argument i names.
-fn run_named(rt: &HostRuntime, i: usize, flags: Flags) -> u8 {
+// The file that argument i names; `-` is standard input.
+fn run_named(rt: &HostRuntime, i: usize, flags: Flags) -> Status {
     let mut room = [0u8; NAME];
-    let named = arguments::file_name(rt, i, &mut room);
-    if !named.is_name {
-        return run::no_list(rt);
+    match arguments::file_name(rt, i, &mut room) {
+        Some(b"-") => run_input(rt, flags),
+        Some(name) => run_opened(rt, name, flags),
+        None => run::no_list(rt),
     }
-    run_front(rt, &room, named.length, flags)
 }
 
-fn run_asked(rt: &HostRuntime, a: Arguments) -> u8 {
-    let flags = a.flags;
-    if a.file >= a.end {
-        return run_input(rt, flags);
+fn run_asked(rt: &HostRuntime, a: Arguments) -> Status {
+    match a.list {
+        List::Input => run_input(rt, a.flags),
+        List::File(i) => run_named(rt, i, a.flags),
+        List::Many => {
+            arguments::one_list_at_a_time(rt);
+            Status::Failed
+        }
     }
-    if a.end - a.file > 1 {
-        arguments::one_list_at_a_time(rt);
-        return 2;
-    }
-    run_named(rt, a.file, flags)
 }
 
 // Without `--status` it is 0, whatever became of the list.
@@ -79,7 +59,7 @@ fn main(rt: HostRuntime) -> ExitCode {
     let a = arguments::read(&rt);
     let status = run_asked(&rt, a);
     if a.flags.status {
-        return ExitCode::from(status % 3);
+        return ExitCode::from(status as u8);
     }
     ExitCode::SUCCESS
 }

@@ -4,11 +4,12 @@ ghost use Rattle.calls.specs.Practised as Practised;
 
 use answers::STREAMS;
 use console::output::Output;
-use desk::desk::{CALL, Desk, OPEN, numbered, written};
+use desk::desk::Request;
+use desk::reply::Given;
 use radio::listen::read_commands;
 use radio::state::{HighPriority, Radio};
 use std::num::wrapping_add_u64;
-use telling::radio::tell;
+use telling::radio::tell as tell_radio;
 
 // The offsets of the streams that an answer lists stand behind their number, in five places.
 const OFFSETS: usize = STREAMS + 1;
@@ -36,31 +37,26 @@ pub(crate) fn untold() -> Practice
 fn offset(x: u64) -> u8
     ensures { result ≡ Practised.octet x }
 {
-    if x > 255 {
-        return 255;
-    }
-    x as u8
+    x.min(255) as u8
 }
 
+// One by one: to map them an array of five would have to be copied first.
 fn offsets_of(answers: &[u64; 8]) -> [u8; MOST]
     ensures { result ≡ Practised.places_of answers.now }
 {
-    let a = offset(answers[OFFSETS]);
-    let b = offset(answers[OFFSETS + 1]);
-    let c = offset(answers[OFFSETS + 2]);
-    let d = offset(answers[OFFSETS + 3]);
-    let e = offset(answers[OFFSETS + 4]);
-    [a, b, c, d, e]
+    [
+        offset(answers[OFFSETS]),
+        offset(answers[OFFSETS + 1]),
+        offset(answers[OFFSETS + 2]),
+        offset(answers[OFFSETS + 3]),
+        offset(answers[OFFSETS + 4]),
+    ]
 }
 
 fn count_of(answers: &[u64; 8]) -> usize
     ensures { result ≡ min (slice_index answers.now 2) 5 }
 {
-    let n = answers[STREAMS];
-    if n > MOST as u64 {
-        return MOST;
-    }
-    n as usize
+    answers[STREAMS].min(MOST as u64) as usize
 }
 
 // After the packets that an answer lists.
@@ -69,30 +65,23 @@ fn heard(p: Practice, packets: &[u8; 8192], answers: &[u64; 8]) -> Practice
 {
     let offsets = offsets_of(answers);
     let n = count_of(answers);
-    let all = &offsets[..];
-    let before = p.radio;
-    let got = read_commands(before, &all[0..n], packets);
-    let radio = got.radio;
+    let got = read_commands(p.radio, &offsets[..n], packets);
     let refused = (n - got.accepted) as u64;
     Practice {
-        radio,
+        radio: got.radio,
         refused: wrapping_add_u64(p.refused, refused),
     }
 }
 
 // After a line that asks for this, and is run.
-pub(crate) fn listened(p: Practice, asks: u8, packets: &[u8; 8192], answers: &[u64; 8]) -> Practice
-    ensures { Practised.Listened asks p packets.now answers.now result }
+pub(crate) fn listened(p: Practice, asks: Request, given: &Given) -> Practice
+    ensures { Practised.Listened asks p given.now.packets given.now.answers result }
 {
     match asks {
-        CALL => heard(p, packets, answers),
-        OPEN => untold(),
+        Request::Call => heard(p, &given.packets, &given.answers),
+        Request::Open => untold(),
         _ => p,
     }
-}
-
-fn wide(x: u32) -> u64 {
-    x as u64
 }
 
 // The numbers of a general, a receive and a transmit packet, and the count of a high priority one.
@@ -102,33 +91,29 @@ fn counted(r: Radio) -> [u64; 7] {
     let tx = r.tx_specific;
     let h = r.high_priority;
     [
-        wide(g.seq),
-        g.filter_enable as u64,
-        wide(rx.seq),
-        rx.adc_count as u64,
-        rx.rate_khz as u64,
-        wide(tx.seq),
-        wide(h.seq),
+        u64::from(g.seq),
+        u64::from(g.filter_enable),
+        u64::from(rx.seq),
+        u64::from(rx.adc_count),
+        u64::from(rx.rate_khz),
+        u64::from(tx.seq),
+        u64::from(h.seq),
     ]
 }
 
 // Those of a high priority packet behind its run, and how many packets were refused.
 fn tuned(h: HighPriority, refused: u64) -> [u64; 6] {
     [
-        wide(h.ddc_phase),
-        wide(h.duc_phase),
-        wide(h.alex1),
-        wide(h.alex0),
-        h.attenuation as u64,
+        u64::from(h.ddc_phase),
+        u64::from(h.duc_phase),
+        u64::from(h.alex1),
+        u64::from(h.alex0),
+        u64::from(h.attenuation),
         refused,
     ]
 }
 
-pub(crate) fn shown(p: Practice, d: Desk, out: &mut Output) -> Desk {
-    let start = numbered(out, d);
-    let r = p.radio;
-    let h = r.high_priority;
-    let before = counted(r);
-    let behind = tuned(h, p.refused);
-    written(d, tell(out, start, &before, h.run, &behind))
+pub(crate) fn tell(p: Practice, out: &mut Output) {
+    let h = p.radio.high_priority;
+    tell_radio(out, &counted(p.radio), h.run, &tuned(h, p.refused))
 }

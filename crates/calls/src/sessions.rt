@@ -1,118 +1,109 @@
 // The session in hand: after a line, and what is told of it. What a session is needed for stands here, and nothing else: each
 // statement of a function that holds one costs the proof as much as a small function.
-ghost use Rattle.console.specs.Input.{Within};
 ghost use Rattle.examining.specs.Stands.{Standing};
 ghost use Rattle.holding.specs.Held.{Holds, Kept};
 ghost use Rattle.desk.specs.Asked.{Asks, IsRun};
 
 use super::practice;
 use super::practice::Practice;
-use console::input::{Input, ROOM as INPUT};
 use console::output::Output;
-use desk::desk::{CALL, Desk, END, OPEN, RADIO, STATE, numbered, written};
+use desk::desk::{Desk, Request};
 use desk::key;
-use desk::reply::Became;
+use desk::line::Asked;
+use desk::reply::Given;
 use encoding::words::KIND;
 use examining::sitting::end_of;
-use holding::{Held, called};
+use holding::{Held, called, opened};
+use lines::Expected;
 use model::session::Session;
 use stream::F32_PER_DATAGRAM;
 use tally::account::{Account, TABLE};
 use telling::state;
 
-// By the line in hand.
-fn opened(
-    text: &[u8; INPUT],
-    at: Input,
-    samples: &[f32; F32_PER_DATAGRAM],
-    table: &[u64; TABLE],
-) -> Held
-    requires { Within at }
-    ensures { Holds result samples.now table.now }
-{
-    let all = &text[..];
-    let start = at.start;
-    let end = at.end;
-    holding::opened(&all[start..end], samples, table)
-}
-
-// After the line in hand, which asks for this. A call is run: its numbers are such as a line is read as.
+// After the line in hand, which asks for this. A call is run: its numbers are such as a line is read as. That the account stands is a
+// clause and no ghost field of the session: a ghost field has to be a fact with one proof, and `Stands` is told by a list of calls.
 pub(crate) fn after(
     h: Held,
-    asks: u8,
-    text: &[u8; INPUT],
-    at: Input,
+    asks: Request,
+    line: Option<&[u8]>,
     samples: &mut [f32; F32_PER_DATAGRAM],
-    call: &[u64; 8],
-    octets: &[u8; 2048],
-    numbers: &[u32; 8193],
-    packets: &mut [u8; 8192],
-    places: &mut [f32; 1024],
-    answers: &mut [u64; 8],
+    asked: &Asked,
+    given: &mut Given,
     table: &mut [u64; TABLE],
 ) -> Held
-    requires within { Within at }
-    requires asks { Asks asks call.now }
+    requires asks { Asks asks asked.now.call }
     requires holds { Holds h samples.old table.old }
     ensures holds_2 { Holds result samples.new table.new }
     ensures run { IsRun asks result.sitting.outcome }
 {
-    if asks == CALL {
-        return called(
-            h, samples, call, octets, numbers, packets, places, answers, table,
-        );
+    match (asks, line) {
+        (Request::Call, _) => called(
+            h,
+            samples,
+            &asked.call,
+            &asked.octets,
+            &asked.numbers,
+            &mut given.packets,
+            &mut given.places,
+            &mut given.answers,
+            table,
+        ),
+        (Request::Open, Some(line)) => opened(line, samples, table),
+        _ => h,
     }
-    if asks == OPEN {
-        return opened(text, at, samples, table);
-    }
-    h
 }
 
 // The account of a session that ends.
-fn put_account(s: Session, a: Account, at: usize, table: &[u64; TABLE], out: &mut Output) -> usize
+fn put_account(s: Session, a: Account, table: &[u64; TABLE], out: &mut Output)
     requires { Standing s table.now a }
 {
-    let end = end_of(s);
-    key::put_rows(out, at, table, a, end)
+    key::put_rows(out, table, a, end_of(s))
 }
 
-fn ended(h: Held, d: Desk, table: &[u64; TABLE], out: &mut Output) -> Desk
+fn ended(h: Held, table: &[u64; TABLE], out: &mut Output)
     requires { Kept h table.now }
 {
-    if !h.stands {
-        return d;
+    if h.stands {
+        put_account(h.sitting.session, h.sitting.account, table, out);
     }
-    let s = h.sitting.session;
-    let a = h.sitting.account;
-    written(d, put_account(s, a, d.out, table, out))
-}
-
-fn shown(s: Session, d: Desk, out: &mut Output) -> Desk {
-    let start = numbered(out, d);
-    written(d, state::tell(out, start, s))
 }
 
 // Of the session as it is before the line in hand: its state, its account where it ends, or what the radio beside it keeps.
-pub(crate) fn told(h: Held, p: Practice, d: Desk, table: &[u64; TABLE], out: &mut Output) -> Desk
+pub(crate) fn told(h: Held, p: Practice, d: &Desk, table: &[u64; TABLE], out: &mut Output)
     requires { Kept h table.now }
 {
-    let asks = d.asks;
-    let s = h.sitting.session;
-    match asks {
-        STATE => shown(s, d, out),
-        RADIO => practice::shown(p, d, out),
-        OPEN | END => ended(h, d, table, out),
-        _ => d,
+    match d.asks {
+        Request::State => {
+            d.put_number(out);
+            state::tell(out, h.sitting.session);
+        }
+        Request::Radio => {
+            d.put_number(out);
+            practice::tell(p, out);
+        }
+        Request::Open | Request::End => ended(h, table, out),
+        Request::Nothing | Request::Call => {}
     }
 }
 
-// What became of a line, of the session after it and the account before it.
-pub(crate) fn became_of(h: Held, before: Account, call: &[u64; 8]) -> Became {
-    let fits = h.sitting.fits;
-    Became {
-        refused: h.refused,
-        kind: call[KIND],
-        fits,
-        before,
+// What a line is answered, of the session after it and the account before it.
+pub(crate) fn answered(
+    h: Held,
+    before: Account,
+    d: &mut Desk,
+    asked: &Asked,
+    given: &Given,
+    out: &mut Output,
+) {
+    match d.asks {
+        Request::Call => {
+            d.tell_called(asked.call[KIND], before, given, out);
+            if !h.sitting.fits {
+                d.stop(Expected::FewerStretches, b"", out);
+            }
+        }
+        Request::Open => d.tell_opened(h.refused, out),
+        Request::End => d.is_over = true,
+        Request::Nothing | Request::State | Request::Radio => {}
     }
 }

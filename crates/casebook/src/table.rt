@@ -1,21 +1,10 @@
 // Tables of functions: a row for each, a line of its name and of what it is given, a count of numbers and an o for octets.
-use super::words::{line_end, next_line, word_at};
-
-#[derive(Clone, Copy)]
-pub enum Found {
-    Row(usize),
-    Nothing,
-}
+use super::words::word_at;
 
 // Whether a row has this name and is given this.
 fn is_row(row: &[u8], name: &[u8], count: usize, has_octets: bool) -> bool {
     let w = word_at(row, 0);
-    let start = w.start;
-    let end = w.end;
-    if check::same(&row[start..end], name) {
-        return kinds(&row[end..], count, has_octets);
-    }
-    false
+    &row[w.start..w.end] == name && kinds(&row[w.end..], count, has_octets)
 }
 
 // Whether the word after a row's name says so many numbers, and octets or none.
@@ -27,16 +16,8 @@ fn kinds(rest: &[u8], count: usize, has_octets: bool) -> bool {
 }
 
 // The number of the first row that fits.
-pub fn find(table: &[u8], name: &[u8], count: usize, has_octets: bool) -> Found {
-    let mut at = 0;
-    let mut number = 0;
-    while at < table.len() {
-        let end = line_end(table, at);
-        if is_row(&table[at..end], name, count, has_octets) {
-            return Found::Row(number);
-        }
-        at = next_line(table, at);
-        number += 1;
-    }
-    Found::Nothing
+pub fn find(table: &[u8], name: &[u8], count: usize, has_octets: bool) -> Option<usize> {
+    table
+        .split(|x| *x == b'\n')
+        .position(|row| is_row(row, name, count, has_octets))
 }

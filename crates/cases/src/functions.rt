@@ -1,7 +1,7 @@
 // Which functions there are: groups, each with functions of one crate, or of a session's small parts. A further group is a
 // file with a table and the code that runs a row of it, and a line in each function here.
 use casebook::answer::Answer;
-use casebook::table::{Found, find};
+use casebook::table::find;
 use part_probes::{part_cases, receiving_cases};
 use probes::{double_cases, octet_cases, packet_cases, wire_cases};
 use radio_probes::radio_cases;
@@ -21,25 +21,25 @@ pub(crate) enum Function {
 
 // The function of this name that is given so many numbers, and octets or none.
 pub(crate) fn named(name: &[u8], count: usize, has_octets: bool) -> Function {
-    if let Found::Row(row) = find(&octet_cases::TABLE, name, count, has_octets) {
+    if let Some(row) = find(&octet_cases::TABLE, name, count, has_octets) {
         return Function::Octet(row);
     }
-    if let Found::Row(row) = find(&double_cases::TABLE, name, count, has_octets) {
+    if let Some(row) = find(&double_cases::TABLE, name, count, has_octets) {
         return Function::Double(row);
     }
-    if let Found::Row(row) = find(&wire_cases::TABLE, name, count, has_octets) {
+    if let Some(row) = find(&wire_cases::TABLE, name, count, has_octets) {
         return Function::Wire(row);
     }
-    if let Found::Row(row) = find(&packet_cases::TABLE, name, count, has_octets) {
+    if let Some(row) = find(&packet_cases::TABLE, name, count, has_octets) {
         return Function::Packet(row);
     }
-    if let Found::Row(row) = find(&part_cases::TABLE, name, count, has_octets) {
+    if let Some(row) = find(&part_cases::TABLE, name, count, has_octets) {
         return Function::Part(row);
     }
-    if let Found::Row(row) = find(&receiving_cases::TABLE, name, count, has_octets) {
+    if let Some(row) = find(&receiving_cases::TABLE, name, count, has_octets) {
         return Function::Receiving(row);
     }
-    if let Found::Row(row) = find(&radio_cases::TABLE, name, count, has_octets) {
+    if let Some(row) = find(&radio_cases::TABLE, name, count, has_octets) {
         return Function::Radio(row);
     }
     Function::Unknown

@@ -7,10 +7,10 @@ mod run;
 mod tally;
 
 use console::input::ROOM as INPUT;
-use console::output::gathered;
+use console::output::Output;
 
 fn main(rt: HostRuntime) {
     let mut room = [0u8; INPUT];
-    let mut out = gathered(rt.stdout(), rt.stderr());
+    let mut out = Output::new(rt.stdout(), rt.stderr());
     run::run(&mut rt.stdin(), &mut room, &mut out);
 }

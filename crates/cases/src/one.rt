@@ -1,5 +1,5 @@
 // One case: run, and told.
-ghost use Rattle.std.specs.Prelude.{◌≤◌, length};
+ghost use Rattle.std.specs.Prelude.{◌≤◌, IfSome, length};
 
 use super::functions::{answer, named};
 use super::tally::Tally;
@@ -8,82 +8,53 @@ use casebook::case::{Case, read};
 use casebook::report;
 use console::output::Output;
 
-// Whether a case came as expected, and how much is written then.
-#[derive(Clone, Copy)]
-struct Outcome {
-    fine: bool,
-    out: usize,
-}
-
-// came and room are as is_as takes them.
-fn told(
-    a: Answer,
-    came: &[u8],
-    expected: &[u8],
-    room: &mut [u8],
-    out: &mut Output,
-    at: usize,
-) -> Outcome {
+// Whether a case came as expected. came and room are as is_as takes them.
+fn told(a: Answer, came: &[u8], expected: &[u8], room: &mut [u8], out: &mut Output) -> bool {
     let fine = is_as(a, came, expected, room);
     if fine {
-        return Outcome {
-            fine,
-            out: report::as_expected(out, at),
-        };
+        report::as_expected(out);
+    } else {
+        report::other(out, a, came);
     }
-    Outcome {
-        fine,
-        out: report::other(out, at, a, came),
-    }
+    fine
 }
 
 // The octets that a case gives stand at the front of given, and those that are expected go to wanted.
-fn one_case(
-    line: &[u8],
-    c: Case,
-    given: &mut [u8],
-    wanted: &mut [u8],
-    out: &mut Output,
-    at: usize,
-) -> Outcome
+fn one_case(line: &[u8], c: Case, given: &mut [u8], wanted: &mut [u8], out: &mut Output) -> bool
     requires start_le_end { (c.name.start ≤ c.name.end) × (c.name.end ≤ length line.now) }
-    requires start_le_end_2 { (c.expected.start ≤ c.expected.end) × (c.expected.end ≤ length line.now) }
-    requires octets_in_bounds { c.given.octets ≤ length given.old }
+    requires start_le_end_2 { IfSome c.expected (λ w. (w.start ≤ w.end) × (w.end ≤ length line.now)) }
+    requires octets_in_bounds { IfSome c.given.octets (λ count. count ≤ length given.old) }
 {
+    let Some(expected) = c.expected else {
+        report::not_understood(out);
+        return false;
+    };
     let start = c.name.start;
     let end = c.name.end;
-    let f = named(&line[start..end], c.given.count, c.given.has_octets);
-    let n = c.given.octets;
+    let f = named(&line[start..end], c.given.count, c.given.octets.is_some());
+    let n = c.given.octets.unwrap_or(0);
     let numbers = c.given.numbers;
     let a = answer(f, numbers, &mut given[0..n]);
-    let from = c.expected.start;
-    let to = c.expected.end;
-    told(a, &given[0..n], &line[from..to], wanted, out, at)
+    let from = expected.start;
+    let to = expected.end;
+    told(a, &given[0..n], &line[from..to], wanted, out)
 }
 
 // A line that is not blank.
-fn one_told(line: &[u8], number: u64, out: &mut Output, at: usize) -> Outcome {
+fn one_told(line: &[u8], number: u64, out: &mut Output) -> bool {
     let mut given = [0u8; OCTETS];
     let mut wanted = [0u8; OCTETS];
     let c = read(line, &mut given);
     let start = c.name.start;
     let end = c.name.end;
-    let next = report::case(out, at, number, &line[start..end]);
-    if !c.fine {
-        return Outcome {
-            fine: false,
-            out: report::not_understood(out, next),
-        };
-    }
-    one_case(line, c, &mut given, &mut wanted, out, next)
+    report::case(out, number, &line[start..end]);
+    one_case(line, c, &mut given, &mut wanted, out)
 }
 
 // A comment runs to the line's end.
-pub(crate) fn one_line(line: &[u8], t: Tally, out: &mut Output) -> Tally {
+pub(crate) fn one_line(line: &[u8], t: &mut Tally, out: &mut Output) {
     let n = text::find(line, b'#');
-    if text::past(&line[0..n], b' ') == n {
-        return t;
+    if text::past(&line[0..n], b' ') < n {
+        t.next_case(one_told(&line[0..n], t.line, out));
     }
-    let r = one_told(&line[0..n], t.line, out, t.out);
-    t.next_case(r.fine, r.out)
 }

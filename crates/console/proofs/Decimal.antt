@@ -9,7 +9,7 @@ use borrow.Author.Tests.{lt-ltb, le-ltb, le-leb, leb-true, leb-false, ne_eqb}
 use lib.Dec.{leb, eqb}
 use lib.ListN.{get_or}
 use Rattle.io.specs.Digits.{hex_digit_ascii, last_digits, IsDigitCount}
-use Rattle.text.specs.declared.Spelt.TheVariants.{Number}
+use Rattle.std.specs.Prelude.{Some}
 use Rattle.text.specs.Number.{digit_of, digits_after, digits_of, is_hex, number_of}
 
 abbrev most : ℕ
@@ -55,7 +55,7 @@ one-or-more [] y = refl
 one-or-more (x ∷ xs) y = refl
 
 -- what is put for a number is read as the number: no digit is lost
-pub read_back : (n k : ℕ) → IsDigitCount 10 1 n k → n < 2 ^ 64 → number_of (last_digits 10 k n) ≡ Number n
+pub read_back : (n k : ℕ) → IsDigitCount 10 1 n k → n < 2 ^ 64 → number_of (last_digits 10 k n) ≡ Some n
 unfolding number_of digits_after
 read_back n zero f h = absurd (omega arith)
 read_back n (suc k) f h =

@@ -1,29 +1,27 @@
--- What is put into the buffer of what the program writes, and where it ends then. Definitions only.
-use Rattle.std.specs.Prelude.{ℕ, ◌+◌, ◌≤◌, ◌<◌, ◌≡◌, List, length}
+-- What is put into the buffer of what the program writes, and how much of it is still to be written then. Definitions only.
+use Rattle.std.specs.Prelude.{ℕ, ◌+◌, ◌≤◌, ◌<◌, ◌≡◌, ◌⊎◌, true, false, List, length}
 use Rattle.std.proofs.Math.Seq.{paste}
 use Rattle.io.specs.Digits.{last_digits, IsDigitCount}
+use Rattle.console.specs.declared.output.Output.{Output}
 
 -- the buffer's octets
 abbrev pub room : ℕ
 room = 65536
 
--- in place of an end: a write failed
-abbrev pub fault : ℕ
-fault = 65537
+-- nothing is still to be written, or a write failed
+pub data Flushed (o p : Output) : Type 0 where
+  all : o.failed ≡ false → p.failed ≡ false → p.len ≡ 0 → Flushed o p
+  stopped : p.failed ≡ true → Flushed o p
 
--- of the first at octets of the buffer none is still to be written, or a write failed
-pub data Flushed (at r : ℕ) : Type 0 where
-  all : at ≤ room → r ≡ 0 → Flushed at r
-  stopped : r ≡ fault → Flushed at r
-
--- s is put behind the first at octets of d, or at the front where it has no room behind them: e is the buffer then, every other place as it
--- was, and what is still to be written ends at r. Where a write failed, or s is longer than the buffer, no place changes
-pub data Puts (d : List ℕ) (at : ℕ) (s e : List ℕ) (r : ℕ) : Type 0 where
-  behind : at + length s ≤ room → r ≡ at + length s → e ≡ paste d at s (length s) → Puts d at s e r
-  front : at ≤ room → room < at + length s → length s ≤ room → r ≡ length s → e ≡ paste d 0 s (length s) → Puts d at s e r
-  unwritten : room < at + length s → length s ≤ room → r ≡ fault → e ≡ d → Puts d at s e r
-  too_long : room < length s → r ≡ at → e ≡ d → Puts d at s e r
+-- s is put behind the octets of o that are still to be written, or at the front where it has no room behind them: p has the buffer then,
+-- every other place as it was, and how much of it is still to be written. Where a write failed, or s is longer than the buffer, no place
+-- changes
+pub data Puts (o : Output) (s : List ℕ) (p : Output) : Type 0 where
+  behind : o.failed ≡ false → o.len + length s ≤ room → p.failed ≡ false → p.len ≡ o.len + length s → p.room ≡ paste o.room o.len s (length s) → Puts o s p
+  front : o.failed ≡ false → room < o.len + length s → length s ≤ room → p.failed ≡ false → p.len ≡ length s → p.room ≡ paste o.room 0 s (length s) → Puts o s p
+  unwritten : (o.failed ≡ true) ⊎ (room < o.len + length s) → length s ≤ room → p.failed ≡ true → p.room ≡ o.room → Puts o s p
+  too_long : room < length s → p.failed ≡ o.failed → p.len ≡ o.len → p.room ≡ o.room → Puts o s p
 
 -- a number's decimal digits are put, as many as it has
-unfoldable pub PutsNumber : List ℕ → ℕ → ℕ → List ℕ → ℕ → Type 0
-PutsNumber d at n e r = (k : ℕ) × IsDigitCount 10 1 n k × Puts d at (last_digits 10 k n) e r
+unfoldable pub PutsNumber : Output → ℕ → Output → Type 0
+PutsNumber o n p = (k : ℕ) × IsDigitCount 10 1 n k × Puts o (last_digits 10 k n) p

@@ -18,16 +18,14 @@ fn words(error: Error, room: &mut [u8; WORDS]) -> usize
 {
     let mut rest = &mut room[..];
     let _ = write!(rest, "{error}");
-    let all = &room[..];
-    let end = find(all, 0);
+    let end = find(room, 0);
     if error.raw_os_error().is_none() {
         return end;
     }
-    let number = find(&all[..end], b'(');
-    if number == 0 {
-        return end;
+    match find(&room[..end], b'(') {
+        0 => end,
+        number => number - 1,
     }
-    number - 1
 }
 
 // A name, and why what has it failed.

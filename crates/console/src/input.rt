@@ -1,194 +1,117 @@
 // The lines of a file. A read that fails is no end of them.
-ghost use Rattle.std.specs.Prelude.{◌≤◌, ◌+◌, length};
-ghost use Rattle.console.specs.Input.{Within};
+ghost use Rattle.std.specs.Prelude.{◌≤◌, ◌≡◌, slice_range};
 
+use super::output::Output;
 use std::io::{Error, ErrorKind, Read};
+use text::find;
 
 // A line and its newline have room for so many octets.
 pub const ROOM: usize = 131072;
 
-// The line in hand, and what was read behind it. All of it lies in a room that the caller lends.
+// What is known of a file. What was read of it and is no line yet lies in a room that the caller lends.
 #[derive(Clone, Copy)]
 pub struct Input {
-    // the line, without its newline
-    pub start: usize,
-    pub end: usize,
-    // read behind it, and no line yet
-    pub next: usize,
-    pub filled: usize,
-    // there is a line in hand
-    pub is_line: bool,
-    // it is longer than the room: what follows is still of it
-    pub too_long: bool,
+    // from here on, up to there
+    next: usize,
+    filled: usize,
     // the file has no more
-    pub over: bool,
-    // why it can't be read on: what comes next is not known
-    pub failed: Option<Error>,
-}
-
-// That of a file of which nothing is read.
-pub fn nothing() -> Input
-    ensures { Within result }
-{
-    Input {
-        start: 0,
-        end: 0,
-        next: 0,
-        filled: 0,
-        is_line: false,
-        too_long: false,
-        over: false,
-        failed: None,
-    }
-}
-
-fn none(at: Input) -> Input
-    requires { Within at }
-    ensures { Within result }
-{
-    let mut r = at;
-    r.is_line = false;
-    r
-}
-
-// The line goes to `end`, and what is behind it begins at `next`.
-fn found(at: Input, end: usize, next: usize) -> Input
-    requires { (at.next ≤ end) × (end ≤ next) × (next ≤ at.filled) × (at.filled ≤ 131072) }
-    ensures { Within result }
-{
-    Input {
-        start: at.next,
-        end,
-        next,
-        filled: at.filled,
-        is_line: true,
-        too_long: false,
-        over: at.over,
-        failed: at.failed,
-    }
-}
-
-// All that was read is of one line.
-fn rest(at: Input, too_long: bool) -> Input
-    requires { Within at }
-    ensures { Within result }
-{
-    let mut r = found(at, at.filled, at.filled);
-    r.too_long = too_long;
-    r
-}
-
-// The next line of what was read. Where none is in hand then, the file is to be read on, or has no more (is_cut).
-pub fn next(room: &[u8; ROOM], at: Input) -> Input
-    requires { Within at }
-    ensures { Within result }
-{
-    let all = &room[..];
-    let from = at.next;
-    let filled = at.filled;
-    let n = text::find(&all[from..filled], b'\n');
-    if n < filled - from {
-        return found(at, from + n, from + n + 1);
-    }
-    if n == ROOM {
-        return rest(at, true);
-    }
-    if at.over && n > 0 {
-        return rest(at, false);
-    }
-    none(at)
-}
-
-// Whether the file is to be read on before the next line is known.
-pub fn is_cut(at: Input) -> bool {
-    !at.is_line && !at.over
-}
-
-// To the front of the room.
-fn slide(room: &mut [u8], start: usize, end: usize)
-    requires { (start ≤ end) × (end ≤ length room.old) }
-{
-    let mut i = 0;
-    while start + i < end {
-        room[i] = room[start + i];
-        i += 1;
-    }
-}
-
-// What one read gave.
-#[derive(Clone, Copy)]
-struct Got {
-    count: usize,
     over: bool,
+    // why it can't be read on: what comes next is not known
     failed: Option<Error>,
+    pub ghost rises: { next ≤ filled },
+    pub ghost ends: { filled ≤ 131072 },
 }
 
-// A read that a signal interrupts gave nothing, and is tried again.
-fn read_some<R: Read>(from: &mut R, room: &mut [u8]) -> Got
-    ensures { result.count ≤ length room.new }
-{
-    match from.read(room) {
-        Ok(count) => Got {
-            count,
-            over: count == 0,
-            failed: None,
-        },
-        Err(error) => Got {
-            count: 0,
+// What comes next of a file.
+#[derive(Clone, Copy)]
+pub enum Next<'a> {
+    // a line, without its newline
+    Line(&'a [u8]),
+    // the front of one that is longer than the room: what follows is still of it
+    TooLong(&'a [u8]),
+    // it is to be read on before the next line is known
+    Cut,
+    // no line any more
+    Over,
+}
+
+impl Input {
+    ghost use Rattle.console.specs.Input.{Comes};
+    ghost use Rattle.console.specs.Output.{Flushed};
+
+    // That of a file of which nothing is read.
+    pub fn new() -> Input {
+        Input {
+            next: 0,
+            filled: 0,
             over: false,
-            failed: if error.kind() == ErrorKind::Interrupted {
-                None
-            } else {
-                Some(error)
-            },
-        },
+            failed: None,
+        }
     }
-}
 
-// Behind the first `had` octets.
-fn read_behind<R: Read>(from: &mut R, room: &mut [u8], had: usize) -> Got
-    requires { had ≤ length room.old }
-    ensures { had + result.count ≤ length room.new }
-{
-    read_some(from, &mut room[had..])
-}
-
-// No line in hand, and so much read.
-fn holding(filled: usize, over: bool, failed: Option<Error>) -> Input
-    requires { filled ≤ 131072 }
-    ensures { Within result }
-{
-    Input {
-        start: 0,
-        end: 0,
-        next: 0,
-        filled,
-        is_line: false,
-        too_long: false,
-        over,
-        failed,
+    // Why it can't be read on.
+    pub fn fault(&self) -> Option<Error>
+        ensures { result ≡ self.now.failed }
+    {
+        self.failed
     }
-}
 
-// Reads more behind what is there. A room that is full stays as it is: a read of no octets would look like the file's end.
-fn more<R: Read>(from: &mut R, room: &mut [u8; ROOM], had: usize) -> Input
-    requires { had ≤ 131072 }
-    ensures { Within result }
-{
-    if had == ROOM {
-        return holding(had, false, None);
+    // The next line of what was read.
+    pub fn next<'a>(&mut self, room: &'a [u8; ROOM]) -> Next<'a>
+        ensures { Comes (slice_range room.now self.old.next self.old.filled) result }
+    {
+        let rest = &room[self.next..self.filled];
+        let n = find(rest, b'\n');
+        if n < rest.len() {
+            self.next += n + 1;
+            return Next::Line(&rest[..n]);
+        }
+        if n == ROOM {
+            self.next = self.filled;
+            return Next::TooLong(rest);
+        }
+        if !self.over {
+            return Next::Cut;
+        }
+        if n == 0 {
+            return Next::Over;
+        }
+        self.next = self.filled;
+        Next::Line(rest)
     }
-    let g = read_behind(from, room, had);
-    holding(had + g.count, g.over, g.failed)
-}
 
-// What is left goes to the front, and more is read behind it.
-pub fn fill<R: Read>(from: &mut R, room: &mut [u8; ROOM], at: Input) -> Input
-    requires { Within at }
-    ensures { Within result }
-{
-    let start = at.next;
-    let end = at.filled;
-    slide(room, start, end);
-    more(from, room, end - start)
+    // What is no line yet goes to the front, and more is read behind it. A room that is full stays as it is: a read of no octets would
+    // look like the file's end. A read that a signal interrupts gave nothing, and is tried again.
+    pub fn fill<R: Read>(&mut self, from: &mut R, room: &mut [u8; ROOM]) {
+        room.copy_within(self.next..self.filled, 0);
+        self.filled -= self.next;
+        self.next = 0;
+        self.over = false;
+        self.failed = None;
+        if self.filled == ROOM {
+            return;
+        }
+        match from.read(&mut room[self.filled..]) {
+            Ok(count) => {
+                self.filled += count;
+                self.over = count == 0;
+            }
+            Err(error) => {
+                if error.kind() != ErrorKind::Interrupted {
+                    self.failed = Some(error);
+                }
+            }
+        }
+    }
+    // Reads on. A read may wait: what is answered is written first, so that whoever writes the file has its answers. Nothing is read where
+    // that fails.
+    pub fn read_on<R: Read>(&mut self, from: &mut R, room: &mut [u8; ROOM], out: &mut Output)
+        ensures flushed { Flushed out.old out.new }
+        ensures kept { out.new.room ≡ out.old.room }
+    {
+        out.flush();
+        if !out.has_failed() {
+            self.fill(from, room);
+        }
+    }
 }

@@ -1,131 +1,133 @@
 // What the program writes, gathered in a buffer and written out where it is full. A write that fails is told once, and nothing is
 // written after it.
-ghost use Rattle.std.specs.Prelude.{◌+◌, ◌≤◌, ◌≡◌, length, replicate};
-ghost use Rattle.std.proofs.Math.Seq.{paste};
-ghost use Rattle.console.specs.Output.{Flushed, Puts, PutsNumber};
+ghost use Rattle.std.specs.Prelude.{◌≤◌, ◌≡◌, replicate, false};
 
 use super::fault::fail;
 use std::io::{Error, Stderr, Stdout, Write};
 
 pub const ROOM: usize = 65536;
 
-// In place of how many octets are still to be written: a write failed.
-pub const FAILED: usize = ROOM + 1;
-
 // The buffer, where it is written to, and where it is told that a write failed.
 #[derive(Drop)]
 pub struct Output {
-    pub room: [u8; ROOM],
-    pub to: Stdout,
-    pub faults: Stderr,
+    room: [u8; ROOM],
+    // so many of the room's octets are still to be written
+    len: usize,
+    // a write failed, and they stay unwritten: the count holds then too, so that this is no Option of it
+    failed: bool,
+    to: Stdout,
+    faults: Stderr,
+    pub ghost within: { len ≤ 65536 },
 }
 
-// Nothing is gathered.
-pub fn gathered(to: Stdout, faults: Stderr) -> Output
-    ensures { result.room ≡ replicate 65536 0 }
+fn write_front(to: &mut Stdout, room: &[u8; ROOM], len: usize) -> Result<(), Error>
+    requires { len ≤ 65536 }
 {
-    Output {
-        room: [0u8; ROOM],
-        to,
-        faults,
-    }
+    to.write_all(&room[..len])
 }
 
-// A name, and why what has it failed, on standard error.
-pub fn tell_fault(out: &mut Output, name: &[u8], error: Error)
-    ensures { out.new.room ≡ out.old.room }
-{
-    fail(&mut out.faults, name, error)
-}
+impl Output {
+    ghost use Rattle.console.specs.Output.{Flushed, Puts, PutsNumber};
 
-fn write_front(to: &mut Stdout, room: &[u8; ROOM], at: usize) -> Result<(), Error>
-    requires { at ≤ 65536 }
-{
-    let all = &room[..];
-    to.write_all(&all[0..at])
-}
-
-// Writes the first `at` octets; how many are still to be written then.
-pub fn flush(out: &mut Output, at: usize) -> usize
-    ensures flushed { Flushed at result }
-    ensures kept { out.new.room ≡ out.old.room }
-{
-    if at > ROOM {
-        return FAILED;
-    }
-    match write_front(&mut out.to, &out.room, at) {
-        Ok(()) => 0,
-        Err(error) => {
-            tell_fault(out, b"standard output", error);
-            FAILED
+    // Nothing is gathered.
+    pub fn new(to: Stdout, faults: Stderr) -> Output
+        ensures room { result.room ≡ replicate 65536 0 }
+        ensures len { result.len ≡ 0 }
+        ensures failed { result.failed ≡ false }
+    {
+        Output {
+            room: [0u8; ROOM],
+            len: 0,
+            failed: false,
+            to,
+            faults,
         }
     }
-}
 
-// Writes the first `at` octets as the last ones; whether they are written.
-pub fn finish(out: &mut Output, at: usize) -> bool
-    ensures { out.new.room ≡ out.old.room }
-{
-    flush(out, at) <= ROOM
-}
-
-fn copy(out: &mut [u8], at: usize, s: &[u8])
-    requires { at + length s.now ≤ length out.old }
-    ensures { out.new ≡ paste out.old at s.now (length s.now) }
-{
-    let mut i = 0;
-    while i < s.len() {
-        out[at + i] = s[i];
-        i += 1;
+    // Whether a write failed.
+    pub fn has_failed(&self) -> bool
+        ensures { result ≡ self.now.failed }
+    {
+        self.failed
     }
-}
 
-// Puts s behind the first `at` octets; where they end then.
-pub fn put(out: &mut Output, at: usize, s: &[u8]) -> usize
-    ensures { Puts out.old.room at s.now out.new.room result }
-{
-    if s.len() > ROOM {
-        return at;
+    // A name, and why what has it failed, on standard error.
+    pub fn tell_fault(&mut self, name: &[u8], error: Error)
+        ensures room { self.new.room ≡ self.old.room }
+        ensures len { self.new.len ≡ self.old.len }
+        ensures failed { self.new.failed ≡ self.old.failed }
+    {
+        fail(&mut self.faults, name, error)
     }
-    if at <= ROOM - s.len() {
-        copy(&mut out.room, at, s);
-        return at + s.len();
+
+    // Writes what is still to be written.
+    pub fn flush(&mut self)
+        ensures flushed { Flushed self.old self.new }
+        ensures kept { self.new.room ≡ self.old.room }
+    {
+        if self.failed {
+            return;
+        }
+        match write_front(&mut self.to, &self.room, self.len) {
+            Ok(()) => self.len = 0,
+            Err(error) => {
+                self.failed = true;
+                self.tell_fault(b"standard output", error);
+            }
+        }
     }
-    if flush(out, at) > ROOM {
-        return FAILED;
+
+    // Writes what is still to be written, as the last; whether all is written.
+    pub fn finish(&mut self) -> bool
+        ensures { self.new.room ≡ self.old.room }
+    {
+        self.flush();
+        !self.failed
     }
-    copy(&mut out.room, 0, s);
-    s.len()
-}
 
-// A number in decimal.
-pub fn number(out: &mut Output, at: usize, n: u64) -> usize
-    ensures { PutsNumber out.old.room at n out.new.room result }
-{
-    let mut text = [0u8; 20];
-    let k = io::decimal(n, &mut text);
-    put(out, at, &text[..k])
-}
+    // Puts s behind what is still to be written.
+    pub fn put(&mut self, s: &[u8])
+        ensures { Puts self.old s.now self.new }
+    {
+        if s.len() > ROOM || self.failed {
+            return;
+        }
+        if self.len > ROOM - s.len() {
+            self.flush();
+            if self.failed {
+                return;
+            }
+        }
+        let end = self.len + s.len();
+        self.room[self.len..end].copy_from_slice(s);
+        self.len = end;
+    }
 
-// A word, and a number behind it.
-pub fn named(out: &mut Output, at: usize, name: &[u8], n: u64) -> usize {
-    let end = put(out, at, name);
-    number(out, end, n)
-}
+    // A number in decimal.
+    pub fn number(&mut self, n: u64)
+        ensures { PutsNumber self.old n self.new }
+    {
+        let mut text = [0u8; 20];
+        let k = io::decimal(n, &mut text);
+        self.put(&text[..k])
+    }
 
-// So many digits in hexadecimal, and a word before them.
-pub fn named_hex(out: &mut Output, at: usize, name: &[u8], n: u64, digits: usize) -> usize {
-    let mut text = [0u8; 16];
-    let k = io::hex(n, digits, &mut text);
-    let end = put(out, at, name);
-    put(out, end, &text[..k])
-}
+    // A word, and a number behind it.
+    pub fn named(&mut self, name: &[u8], n: u64) {
+        self.put(name);
+        self.number(n)
+    }
 
-// Yes or no.
-pub fn yes(out: &mut Output, at: usize, b: bool) -> usize {
-    if b {
-        put(out, at, b"yes")
-    } else {
-        put(out, at, b"no")
+    // So many digits in hexadecimal, and a word before them.
+    pub fn named_hex(&mut self, name: &[u8], n: u64, digits: usize) {
+        let mut text = [0u8; 16];
+        let k = io::hex(n, digits, &mut text);
+        self.put(name);
+        self.put(&text[..k])
+    }
+
+    // Yes or no.
+    pub fn yes(&mut self, b: bool) {
+        self.put(if b { b"yes" } else { b"no" })
     }
 }

@@ -1,13 +1,14 @@
 -- What a line asks for, as the desk says it. Definitions only.
-use Rattle.std.specs.Prelude.{◌≡◌, ℕ, List}
+use Rattle.std.specs.Prelude.{⊤, ◌≡◌, ℕ, List, Result, Ok}
+use Rattle.encoding.specs.declared.check.ListError.{ListError}
 use Rattle.lines.specs.Call.{Fit}
-use Rattle.encoding.specs.declared.check.Outcome.{Outcome}
-use Rattle.encoding.specs.declared.check.Outcome.TheVariants.{Ran}
+use Rattle.desk.specs.declared.desk.Request.{Request}
+use Rattle.desk.specs.declared.desk.Request.TheVariants.{Call}
 
 -- a call: its numbers are within the bounds of what a line is read as
-pub record Asks (asks : ℕ) (call : List ℕ) : Type 0 where
-  pub fit : asks ≡ 1 → Fit call
+pub record Asks (asks : Request) (call : List ℕ) : Type 0 where
+  pub fit : asks ≡ Call → Fit call
 
 -- and it is run
-pub record IsRun (asks : ℕ) (outcome : Outcome) : Type 0 where
-  pub ran : asks ≡ 1 → outcome ≡ Ran
+pub record IsRun (asks : Request) (outcome : Result ⊤ ListError) : Type 0 where
+  pub ran : asks ≡ Call → outcome ≡ Ok tt

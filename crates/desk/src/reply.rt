@@ -1,103 +1,58 @@
 // What a line is answered, once it is run: a line of text.
-use super::desk::{CALL, Desk, END, OPEN, numbered, stopped};
+ghost use Rattle.std.specs.Prelude.{◌≡◌, ◌↔◌, IsTrue};
+
+use super::desk::Desk;
 use super::key;
 use answers::{CODE, GAP, VALUE};
-use console::output::{Output, put};
-use console::pattern::filled;
-use lines::Expected;
+use console::output::Output;
 use tally::account::Account;
 use telling::answer;
 
-// What became of the line, beside the answer in the lent buffers.
-#[derive(Clone, Copy)]
-pub struct Became {
-    // of an `open`: 01's number of the refusal, or 0
-    pub refused: u64,
-    // of a call: its kind, whether it was noted, and the account before it
-    pub kind: u64,
-    pub fits: bool,
-    pub before: Account,
+// What a call gives: its answer's numbers, its packets and its samples.
+#[derive(Drop)]
+pub struct Given {
+    pub answers: [u64; 8],
+    pub packets: [u8; 8192],
+    pub places: [f32; 1024],
 }
 
-fn put_opened(out: &mut Output, at: usize, refused: u64) -> usize {
-    if refused == 0 {
-        return put(out, at, b"opened\n");
+impl Given {
+    pub fn new() -> Given {
+        Given {
+            answers: [0; 8],
+            packets: [0; 8192],
+            places: [0.0; 1024],
+        }
     }
-    filled(out, at, b"refused #\n", &[refused])
-}
-
-// The desk of a session just opened, or of none.
-fn opened(d: Desk, out: &mut Output, refused: u64) -> Desk {
-    let start = numbered(out, d);
-    let mut next = d;
-    next.out = put_opened(out, start, refused);
-    next.is_open = refused == 0;
-    next
-}
-
-fn over(d: Desk) -> Desk {
-    let mut next = d;
-    next.is_over = true;
-    next
 }
 
 // The gap's line, where an arrival was told one.
-fn put_gap(out: &mut Output, at: usize, before: Account, answers: &[u64; 8]) -> usize {
+fn put_gap(out: &mut Output, before: Account, answers: &[u64; 8]) {
     let code = answers[CODE];
-    if code < GAP {
-        return at;
+    if code >= GAP {
+        key::put_gap(out, before, code - GAP, answers[VALUE]);
     }
-    key::put_gap(out, at, before, code - GAP, answers[VALUE])
 }
 
-// The answer's line, and the gap's where it is asked for.
-fn put_answer(
-    d: Desk,
-    b: Became,
-    packets: &[u8; 8192],
-    places: &[f32; 1024],
-    answers: &[u64; 8],
-    out: &mut Output,
-) -> usize {
-    let start = numbered(out, d);
-    let end = answer::tell(out, start, b.kind, answers, packets, places);
-    if d.flags.gaps {
-        let before = b.before;
-        return put_gap(out, end, before, answers);
+impl Desk {
+    // A session was just opened, or its settings were refused by 01's number, which is above 0 (`Opens` of holding).
+    pub fn tell_opened(&mut self, refused: u64, out: &mut Output)
+        ensures { IsTrue self.new.is_open ↔ refused ≡ 0 }
+    {
+        self.put_number(out);
+        self.is_open = refused == 0;
+        if self.is_open {
+            return out.put(b"opened\n");
+        }
+        out.filled(b"refused #\n", &[refused])
     }
-    end
-}
 
-fn answered(
-    d: Desk,
-    b: Became,
-    packets: &[u8; 8192],
-    places: &[f32; 1024],
-    answers: &[u64; 8],
-    out: &mut Output,
-) -> Desk {
-    let mut next = d;
-    next.out = put_answer(d, b, packets, places, answers, out);
-    if !b.fits {
-        return stopped(next, out, Expected::FewerStretches, b"");
-    }
-    next
-}
-
-// To the output.
-pub fn tell(
-    d: Desk,
-    b: Became,
-    packets: &[u8; 8192],
-    places: &[f32; 1024],
-    answers: &[u64; 8],
-    out: &mut Output,
-) -> Desk {
-    let asks = d.asks;
-    match asks {
-        CALL => answered(d, b, packets, places, answers, out),
-        OPEN => opened(d, out, b.refused),
-        END => over(d),
-        _ => d,
+    // The answer of a call of this kind, and the gap's line where it is asked for, from the account before it.
+    pub fn tell_called(&self, kind: u64, before: Account, given: &Given, out: &mut Output) {
+        self.put_number(out);
+        answer::tell(out, kind, &given.answers, &given.packets, &given.places);
+        if self.flags.gaps {
+            put_gap(out, before, &given.answers);
+        }
     }
 }

@@ -1,4 +1,5 @@
 -- What the replies of both protocols share: the tests of a datagram's kind and status; and a told reply leaves no doubt which reply it was. Assumes nothing.
+use Rattle.std.specs.Prelude.{Option, Some, None}
 use Prim.Native.Nat.{ℕ, ◌≤◌, ◌<◌}
 use mathlib.Core.Bool.{Bool, true, false, ◌&&◌, and-false, or-false}
 use mathlib.Core.Path.{◌≡◌, refl, sym, ap, ◌∙◌}
@@ -16,7 +17,7 @@ use Rattle.discovery.specs.Reply.{Reply, status_number, reply_answer, told_of, n
 use Rattle.discovery.specs.declared.DiscoveryStatus.{DiscoveryStatus}
 use Rattle.discovery.specs.declared.DiscoveryStatus.TheVariants.{Available, InUse}
 use Rattle.discovery.specs.declared.ReplyAnswer.{ReplyAnswer}
-use Rattle.discovery.specs.declared.ReplyAnswer.TheVariants.{Protocol1, Protocol2, NoReply}
+use Rattle.discovery.specs.declared.ReplyAnswer.TheVariants.{Protocol1, Protocol2}
 use Rattle.discovery.specs.declared.DiscoveryReply.{DiscoveryReply}
 
 -- ---- a datagram's kind: its l octets are n or more, and the number at its front is k
@@ -71,33 +72,45 @@ replied octet told s m a h q = rw q (by-status (is_status octet) h)
 status-back : ℕ → DiscoveryStatus
 status-back n = pick (eqb n 2) Available InUse
 
-answer_back : Told → ReplyAnswer
-answer_back (gives vs) =
+answer_back : List ℕ → ReplyAnswer
+answer_back vs =
     let status = status-back (get_or vs 1 0) in
     let board = get_or vs 2 0 in
     let firmware = get_or vs 3 0 in
     pick (eqb (get_or vs 0 0) 1) (Protocol1 status board firmware) (Protocol2 status board firmware (get_or vs 4 0))
-answer_back (refused k vs) = NoReply
 
-reply-back : Reply → DiscoveryReply
-reply-back r = record { answer = answer_back r.told; mac = r.mac }
+back_by : Told → List ℕ → Option DiscoveryReply
+back_by (gives vs) mac = Some (record { answer = answer_back vs; mac = mac })
+back_by (refused k vs) mac = None
+
+reply-back : Reply → Option DiscoveryReply
+reply-back r = back_by r.told r.mac
 
 status-same : (s : DiscoveryStatus) → status-back (status_number s) ≡ s
 unfolding status-back pick
 status-same Available = refl
 status-same InUse = refl
 
-answer-same : (a : ReplyAnswer) → answer_back (reply_answer a) ≡ a
-unfolding answer_back pick
+values : Told → List ℕ
+values (gives vs) = vs
+values (refused k vs) = vs
+
+answer-same : (a : ReplyAnswer) → answer_back (values (reply_answer a)) ≡ a
+unfolding answer_back values pick
 answer-same (Protocol1 status board firmware) = rw (status-same status)
 answer-same (Protocol2 status board firmware receivers) = rw (status-same status)
-answer-same NoReply = refl
 
-reply-same : (r : DiscoveryReply) → reply-back (told_of r) ≡ r
-unfolding reply-back
-reply-same r = ap (λ (a : ReplyAnswer). record { answer = a; mac = r.mac }) (answer-same r.answer)
+given : (a : ReplyAnswer) (mac : List ℕ) → back_by (reply_answer a) mac ≡ Some (record { answer = answer_back (values (reply_answer a)); mac = mac })
+unfolding back_by values
+given (Protocol1 status board firmware) mac = refl
+given (Protocol2 status board firmware receivers) mac = refl
 
-pub reply-apart : (r s : DiscoveryReply) → told_of r ≡ told_of s → r ≡ s
+reply-same : (r : Option DiscoveryReply) → reply-back (told_of r) ≡ r
+unfolding reply-back back_by
+reply-same None = refl
+reply-same (Some r) = given r.answer r.mac ∙ ap (λ (a : ReplyAnswer). Some (record { answer = a; mac = r.mac })) (answer-same r.answer)
+
+pub reply-apart : (r s : Option DiscoveryReply) → told_of r ≡ told_of s → r ≡ s
 reply-apart r s e = sym (reply-same r) ∙ ap reply-back e ∙ reply-same s
 
 -- ---- a told reply of Protocol 2 was read off these places

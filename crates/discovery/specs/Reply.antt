@@ -1,5 +1,5 @@
 -- What a datagram says as a radio's reply to discovery, discovery.rs. Definitions only.
-use Rattle.std.specs.Prelude.{ℕ, Bool, ◌&&◌, ◌||◌, List, [], ◌∷◌, length, get_or, take, drop, leb, eqb}
+use Rattle.std.specs.Prelude.{ℕ, Bool, ◌&&◌, ◌||◌, List, [], ◌∷◌, length, get_or, take, drop, leb, eqb, Option, Some, None}
 use Rattle.base.specs.Pick.{pick}
 use Rattle.octets.specs.Number.{be_at}
 use Rattle.octets.specs.Packet.{zeros}
@@ -7,7 +7,7 @@ use Rattle.base.specs.Told.{Told, gives, refused}
 use Rattle.discovery.specs.declared.DiscoveryStatus.{DiscoveryStatus}
 use Rattle.discovery.specs.declared.DiscoveryStatus.TheVariants.{Available, InUse}
 use Rattle.discovery.specs.declared.ReplyAnswer.{ReplyAnswer}
-use Rattle.discovery.specs.declared.ReplyAnswer.TheVariants.{Protocol1, Protocol2, NoReply}
+use Rattle.discovery.specs.declared.ReplyAnswer.TheVariants.{Protocol1, Protocol2}
 use Rattle.discovery.specs.declared.DiscoveryReply.{DiscoveryReply}
 
 -- an answer in 01's terms, with the six octets of the hardware address beside it
@@ -20,22 +20,22 @@ abbrev pub status_number : DiscoveryStatus → ℕ
 status_number Available = 2
 status_number InUse = 3
 
--- the protocol's number, then status, board and firmware, for Protocol 2 the receivers too; 18 no reply
+-- the protocol's number, then status, board and firmware, for Protocol 2 the receivers too
 abbrev pub reply_answer : ReplyAnswer → Told
 reply_answer (Protocol1 status board firmware) = gives (1 ∷ status_number status ∷ board ∷ firmware ∷ [])
 reply_answer (Protocol2 status board firmware receivers) =
     gives (2 ∷ status_number status ∷ board ∷ firmware ∷ receivers ∷ [])
-reply_answer NoReply = refused 18 []
 
 abbrev pub reply : ReplyAnswer → List ℕ → Reply
 reply answer mac = record { told = reply_answer answer; mac = mac }
 
-abbrev pub told_of : DiscoveryReply → Reply
-told_of r = reply r.answer r.mac
-
 -- the address beside 18 is six zeros
 abbrev pub no_reply : Reply
 no_reply = record { told = refused 18 []; mac = zeros 6 }
+
+abbrev pub told_of : Option DiscoveryReply → Reply
+told_of None = no_reply
+told_of (Some r) = reply r.answer r.mac
 
 abbrev pub is_status : ℕ → Bool
 is_status octet = eqb octet 2 || eqb octet 3

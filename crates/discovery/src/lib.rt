@@ -5,9 +5,9 @@
 ghost use Rattle.std.specs.Prelude.{true, ◌≡◌, ◌+◌, ◌≤◌, length, take, drop};
 ghost use Rattle.wire.specs.Packet.{Sent};
 ghost use Rattle.discovery.specs.Request.{request_packet};
-ghost use Rattle.discovery.specs.Reply.{status_number, is_status, reply, told_of, no_reply, checked, is_p1, is_p2, reply_p1, reply_p2, reply_told};
+ghost use Rattle.discovery.specs.Reply.{status_number, is_status, reply, told_of, checked, is_p1, is_p2, reply_p1, reply_p2, reply_told};
 
-use wire::packet::PacketAnswer;
+use wire::packet::PacketError;
 
 pub const PROTOCOL2_REQUEST_LEN: usize = 60;
 
@@ -63,10 +63,9 @@ pub enum ReplyAnswer {
         firmware: u8,
         receivers: u8,
     },
-    NoReply,
 }
 
-// What a radio replied, and its hardware address: six zeros where there is no reply.
+// What a radio replied, and its hardware address.
 #[derive(Clone, Copy)]
 pub struct DiscoveryReply {
     pub answer: ReplyAnswer,
@@ -74,15 +73,15 @@ pub struct DiscoveryReply {
 }
 
 // Writes the request to the front of out.
-pub fn discovery_request_p2(out: &mut [u8]) -> PacketAnswer
+pub fn discovery_request_p2(out: &mut [u8]) -> Result<(), PacketError>
     ensures { Sent 60 request_packet out.old result out.new }
 {
     if out.len() < PROTOCOL2_REQUEST_LEN {
-        return PacketAnswer::NoRoom;
+        return Err(PacketError::NoRoom);
     }
     octets::clear(out, PROTOCOL2_REQUEST_LEN);
     out[P2_REQUEST_COMMAND] = P2_DISCOVER;
-    PacketAnswer::Written
+    Ok(())
 }
 
 fn is_status(octet: u8) -> bool
@@ -115,23 +114,14 @@ fn mac_at(buf: &[u8], at: usize) -> [u8; 6]
     ]
 }
 
-fn no_reply() -> DiscoveryReply
-    ensures { told_of result ≡ no_reply }
-{
-    DiscoveryReply {
-        answer: ReplyAnswer::NoReply,
-        mac: [0; 6],
-    }
-}
-
 // The answer where the octet is a status, else no reply.
-fn checked(octet: u8, answer: ReplyAnswer, mac: [u8; 6]) -> DiscoveryReply
+fn checked(octet: u8, answer: ReplyAnswer, mac: [u8; 6]) -> Option<DiscoveryReply>
     ensures { told_of result ≡ checked octet (reply answer mac) }
 {
     if !is_status(octet) {
-        return no_reply();
+        return None;
     }
-    DiscoveryReply { answer, mac }
+    Some(DiscoveryReply { answer, mac })
 }
 
 // Protocol 1's signature, and its fields within the datagram.
@@ -154,7 +144,7 @@ fn is_p2(buf: &[u8]) -> bool
     octets::get_u32(buf, 0) == 0
 }
 
-fn reply_p1(buf: &[u8]) -> DiscoveryReply
+fn reply_p1(buf: &[u8]) -> Option<DiscoveryReply>
     requires { 11 ≤ length buf.now }
     ensures { told_of result ≡ reply_p1 buf.now }
 {
@@ -167,7 +157,7 @@ fn reply_p1(buf: &[u8]) -> DiscoveryReply
     checked(octet, answer, mac_at(buf, P1_MAC))
 }
 
-fn reply_p2(buf: &[u8]) -> DiscoveryReply
+fn reply_p2(buf: &[u8]) -> Option<DiscoveryReply>
     requires { 21 ≤ length buf.now }
     ensures { told_of result ≡ reply_p2 buf.now }
 {
@@ -181,8 +171,8 @@ fn reply_p2(buf: &[u8]) -> DiscoveryReply
     checked(octet, answer, mac_at(buf, P2_MAC))
 }
 
-// What a datagram of any length says as a reply.
-pub fn parse_reply(buf: &[u8]) -> DiscoveryReply
+// What a datagram of any length says as a reply; nothing where it is none (18).
+pub fn parse_reply(buf: &[u8]) -> Option<DiscoveryReply>
     ensures { told_of result ≡ reply_told buf.now }
 {
     if is_p1(buf) {
@@ -191,5 +181,5 @@ pub fn parse_reply(buf: &[u8]) -> DiscoveryReply
     if is_p2(buf) {
         return reply_p2(buf);
     }
-    no_reply()
+    None
 }

@@ -78,16 +78,7 @@ add-up-to x y b c B p q = plain-two (λ (x y : Float). UpTo x b → UpTo y c →
         (le_trans (add-le-add (mul-le-mul_right (down d) p.1) (mul-le-mul_right (down e) q.1))
         (le_of_eq (ap (λ (z : ℕ). z + c * down d * down e) (mul_assoc b (down e) (down d)) ∙ ap (λ (z : ℕ). b * (down e * down d) + z) (mul_right_comm c (down d) (down e) ∙ mul_assoc c (down e) (down d)) ∙ sym (add-mul b c (down e * down d)))))
 
-pub mul-up-to : (x y : Float) (b c : ℕ) → Exact (b * c) → UpTo x b → UpTo y c → UpTo (mul binary64 x y) (b * c)
-unfolding mul
-mul-up-to x y b c B p q = plain-two (λ (x y : Float). UpTo x b → UpTo y c → UpTo (mul binary64 x y) (b * c)) bounded x y (plain-up-to x b p) (plain-up-to y c q) p q
-  where
-    bounded : (m : ℕ) (e : ℤ) (n : ℕ) (d : ℤ) → UpTo (fin false m e) b → UpTo (fin false n d) c → UpTo (mul binary64 (fin false m e) (fin false n d)) (b * c)
-    bounded m e n d p q =
-        round-up-to (m * up e * (n * up d)) (down e * down d) (b * c) (mul-pos (down_pos e) (down_pos d)) B
-        (le_trans (mul-le-mul p.1 q.1) (le_of_eq (mul-mul-mul_comm b (down e) c (down d))))
-
--- the same below a bound of the product
+-- a product, below a bound of the two bounds' own
 pub mul-within : (x y : Float) (b c t : ℕ) → Exact t → b * c ≤ t → UpTo x b → UpTo y c → UpTo (mul binary64 x y) t
 unfolding mul
 mul-within x y b c t B h p q = plain-two (λ (x y : Float). UpTo x b → UpTo y c → UpTo (mul binary64 x y) t) bounded x y (plain-up-to x b p) (plain-up-to y c q) p q
@@ -96,6 +87,9 @@ mul-within x y b c t B h p q = plain-two (λ (x y : Float). UpTo x b → UpTo y 
     bounded m e n d p q =
         round-up-to (m * up e * (n * up d)) (down e * down d) t (mul-pos (down_pos e) (down_pos d)) B
         (le_trans (mul-le-mul p.1 q.1) (le_trans (le_of_eq (mul-mul-mul_comm b (down e) c (down d))) (mul-le-mul_right (down e * down d) h)))
+
+pub mul-up-to : (x y : Float) (b c : ℕ) → Exact (b * c) → UpTo x b → UpTo y c → UpTo (mul binary64 x y) (b * c)
+mul-up-to x y b c B p q = mul-within x y b c (b * c) B (le_of_eq refl) p q
 
 -- a quotient by what is above 0: x at most b times y
 pub div-up-to : (x y : Float) (b c : ℕ) → T (positive y) → Exact b → UpTo x c → c * den y ≤ b * num y → UpTo (div binary64 x y) b

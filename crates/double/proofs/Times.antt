@@ -2,7 +2,7 @@
 use Rattle.std.proofs.Common.{ℕ, ◌+◌, ◌/◌, ◌%◌, ◌^◌, ◌<◌, ◌≤◌, pos, refl, le_trans, le_refl, arith, lit≤}
 use lib.Ieee.{round, binary64, div, of_int}
 use Rattle.double.specs.Seconds.{seconds_of, giga}
-use Rattle.double.proofs.Bounds.{UpTo, exact-small, of-nat-up-to, add-up-to, div-up-to, Exact}
+use Rattle.double.proofs.Bounds.{UpTo, exact-small, of-nat-up-to, add-up-to, div-up-to, up-to-more, Exact}
 use Rattle.double.specs.Whole.{most}
 
 pub fraction-up-to : (ns : ℕ) → UpTo (div binary64 (of_int binary64 (pos (ns % 1000000000))) giga) 1
@@ -12,16 +12,6 @@ fraction-up-to ns =
   where
     below : (ns : ℕ) → ns % 1000000000 ≤ 1000000000
     below ns = omega arith
-
-pub seconds-up-to : (ns : ℕ) → ns < 2 ^ 64 → UpTo (seconds_of ns) 18446744074
-unfolding seconds_of
-seconds-up-to ns h =
-    add-up-to (of_int binary64 (pos (ns / 1000000000))) (div binary64 (of_int binary64 (pos (ns % 1000000000))) giga) 18446744073 1 (exact-small 18446744074 (lit≤ tt))
-    (of-nat-up-to (ns / 1000000000) 18446744073 (exact-small 18446744073 (lit≤ tt)) (whole ns h))
-    (fraction-up-to ns)
-  where
-    whole : (ns : ℕ) → ns < 18446744073709551616 → ns / 1000000000 ≤ 18446744073
-    whole ns h = omega arith
 
 -- at most the next whole second
 pub seconds-within : (ns : ℕ) → ns < 2 ^ 64 → UpTo (seconds_of ns) (ns / 1000000000 + 1)
@@ -36,6 +26,12 @@ seconds-within ns h =
 
     few : (ns : ℕ) → ns < 18446744073709551616 → ns / 1000000000 ≤ 9007199254740992
     few ns h = omega arith
+
+pub seconds-up-to : (ns : ℕ) → ns < 2 ^ 64 → UpTo (seconds_of ns) 18446744074
+seconds-up-to ns h = up-to-more (seconds_of ns) (ns / 1000000000 + 1) 18446744074 (most-whole ns h) (seconds-within ns h)
+  where
+    most-whole : (ns : ℕ) → ns < 18446744073709551616 → ns / 1000000000 + 1 ≤ 18446744074
+    most-whole ns h = omega arith
 
 pub exact-u64 : Exact 18446744073709551616
 unfolding round

@@ -49,12 +49,6 @@ pub(crate) struct Mixed {
     pub(crate) unit: u64,
 }
 
-fn one_if_any(d: u64) -> u64
-    ensures { result ≡ min d 1 }
-{
-    if d == 0 { 0 } else { 1 }
-}
-
 // The size of a finite x as whole + rest / unit. Something below a quarter stands as a quarter.
 pub(crate) fn split(x: f64) -> Mixed
     requires { T (finite x) }
@@ -66,7 +60,7 @@ pub(crate) fn split(x: f64) -> Mixed
     if k < 1020 {
         return Mixed {
             whole: 0,
-            rest: one_if_any(d),
+            rest: d.min(1),
             unit: 4,
         };
     }

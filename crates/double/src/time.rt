@@ -10,10 +10,7 @@ use super::whole::{is_finite, saturating_add};
 pub fn since(now: u64, then: u64) -> u64
     ensures { result ≡ now - then }
 {
-    if now < then {
-        return 0;
-    }
-    now - then
+    now.saturating_sub(then)
 }
 
 // Rust's `as_secs_f64`: whole seconds plus nanoseconds / 1e9.

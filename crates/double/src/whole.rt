@@ -5,7 +5,7 @@ ghost use Rattle.std.specs.Float.Ieee.{lt, to_unsigned};
 ghost use Rattle.std.specs.Float.Ieee.Scale.{finite};
 ghost use Rattle.double.specs.Whole.{most, floor_of, ceil_of, round_of, rounded, is_whole};
 
-use super::parts::{EXPONENT, MOST, SIGN, near, split};
+use super::parts::{EXPONENT, SIGN, near, split};
 
 pub fn is_finite(x: f64) -> bool
     ensures { result ≡ finite x }
@@ -44,7 +44,7 @@ pub fn cast_u32(x: f64) -> u32
 pub fn saturating_add(n: u64, k: u64) -> u64
     ensures { result ≡ min (n + k) most }
 {
-    if n <= MOST - k { n + k } else { MOST }
+    n.saturating_add(k)
 }
 
 // Rust's `x.ceil() as u64`.

@@ -1,4 +1,7 @@
 -- The walk that checks a list, one call on. Assumes nothing.
+use Rattle.std.specs.Prelude.{⊤, Result, Ok, Err}
+use Rattle.encoding.specs.declared.check.ListError.{ListError}
+use Rattle.encoding.specs.declared.check.ListError.TheVariants.{Lengths, NoCall, NoRoom}
 use Prim.Native.Nat.{ℕ, suc, ◌+◌, ◌-◌, ◌*◌, ◌/◌, ◌%◌, ◌≤◌, ◌<◌}
 use mathlib.Core.Path.{◌≡◌, refl, sym, ap, subst, ◌∙◌}
 use mathlib.Core.Bool.{Bool, true, false}
@@ -13,24 +16,22 @@ use Rattle.encoding.specs.Words.{words_at, is_call, taken_by, nothing, plus, wit
 use Rattle.encoding.specs.Lists.{Lent, room, taken_with, check_from, outcome_in, outcome_of}
 use Rattle.encoding.specs.declared.words.Words.{Words}
 use Rattle.encoding.specs.declared.words.Amounts.{Amounts}
-use Rattle.encoding.specs.declared.check.Outcome.{Outcome}
-use Rattle.encoding.specs.declared.check.Outcome.TheVariants.{Ran, Lengths, NoCall, NoRoom}
 
-pub fine-next : (calls : List ℕ) (room : Amounts) (k i : ℕ) (taken : Amounts) → check_from calls room (suc k) i taken ≡ Ran
-    → (is_call (words_at calls (8 * i)) ≡ true) × (within (taken_with calls i taken) room ≡ true) × (check_from calls room k (i + 1) (taken_with calls i taken) ≡ Ran)
+pub fine-next : (calls : List ℕ) (room : Amounts) (k i : ℕ) (taken : Amounts) → check_from calls room (suc k) i taken ≡ Ok tt
+    → (is_call (words_at calls (8 * i)) ≡ true) × (within (taken_with calls i taken) room ≡ true) × (check_from calls room k (i + 1) (taken_with calls i taken) ≡ Ok tt)
 unfolding check_from pick
 fine-next calls room k i taken h = go (is_call (words_at calls (8 * i))) (within (taken_with calls i taken) room) refl refl h
   where
     go : (b w : Bool) → is_call (words_at calls (8 * i)) ≡ b → within (taken_with calls i taken) room ≡ w
-        → pick b (pick w (check_from calls room k (i + 1) (taken_with calls i taken)) (NoRoom i)) (NoCall i) ≡ Ran
-        → (is_call (words_at calls (8 * i)) ≡ true) × (within (taken_with calls i taken) room ≡ true) × (check_from calls room k (i + 1) (taken_with calls i taken) ≡ Ran)
+        → pick b (pick w (check_from calls room k (i + 1) (taken_with calls i taken)) (Err (NoRoom i))) (Err (NoCall i)) ≡ Ok tt
+        → (is_call (words_at calls (8 * i)) ≡ true) × (within (taken_with calls i taken) room ≡ true) × (check_from calls room k (i + 1) (taken_with calls i taken) ≡ Ok tt)
     go true true eb ew h = (eb, ew, h)
     go false w eb ew h = let z : ◌≡◌ {A = ℕ} 0 1 = cc in absurd (omega arith)
     go true false eb ew h = let z : ◌≡◌ {A = ℕ} 0 1 = cc in absurd (omega arith)
 
 module _ (calls : List ℕ) (room : Amounts) (n i : ℕ) (taken : Amounts) (now : i < n) where
   -- what is left of the walk
-  abbrev pub after : Outcome
+  abbrev pub after : Result ⊤ ListError
   after = check_from calls room (n - (i + 1)) (i + 1) (taken_with calls i taken)
 
   -- what the code worked out of this call's numbers
@@ -44,21 +45,21 @@ module _ (calls : List ℕ) (room : Amounts) (n i : ℕ) (taken : Amounts) (now 
       → within (taken_with calls i taken) room ≡ v
   had-room w need b v e h f k = ap (λ (t : Amounts). within t room) (sym (now-taken w need (plus taken need) e h refl)) ∙ sym f ∙ k
 
-  next-is : check_from calls room (n - i) i taken ≡ pick (is_call (words_at calls (8 * i))) (pick (within (taken_with calls i taken) room) after (NoRoom i)) (NoCall i)
+  next-is : check_from calls room (n - i) i taken ≡ pick (is_call (words_at calls (8 * i))) (pick (within (taken_with calls i taken) room) after (Err (NoRoom i))) (Err (NoCall i))
   unfolding check_from
   next-is = let e : n - i ≡ suc (n - (i + 1)) = omega arith in ap (λ (k : ℕ). check_from calls room k i taken) e
 
-  pub no_call : is_call (words_at calls (8 * i)) ≡ false → NoCall i ≡ check_from calls room (n - i) i taken
+  pub no_call : is_call (words_at calls (8 * i)) ≡ false → Err (NoCall i) ≡ check_from calls room (n - i) i taken
   no_call h = sym (next-is ∙ pick-f _ _ _ h)
 
-  pub no_room : is_call (words_at calls (8 * i)) ≡ true → within (taken_with calls i taken) room ≡ false → NoRoom i ≡ check_from calls room (n - i) i taken
+  pub no_room : is_call (words_at calls (8 * i)) ≡ true → within (taken_with calls i taken) room ≡ false → Err (NoRoom i) ≡ check_from calls room (n - i) i taken
   no_room h k = sym (next-is ∙ pick-t _ _ _ h ∙ pick-f _ _ _ k)
 
   pub goes_on : is_call (words_at calls (8 * i)) ≡ true → within (taken_with calls i taken) room ≡ true → check_from calls room (n - i) i taken ≡ after
   goes_on h k = next-is ∙ pick-t _ _ _ h ∙ pick-t _ _ _ k
 
   -- a list that is run: this is a call, it has room, and the others are run too
-  pub fine : check_from calls room (n - i) i taken ≡ Ran → (is_call (words_at calls (8 * i)) ≡ true) × (within (taken_with calls i taken) room ≡ true) × (after ≡ Ran)
+  pub fine : check_from calls room (n - i) i taken ≡ Ok tt → (is_call (words_at calls (8 * i)) ≡ true) × (within (taken_with calls i taken) room ≡ true) × (after ≡ Ok tt)
   fine h =
       let e : n - i ≡ suc (n - (i + 1)) = omega arith in
       fine-next calls room (n - (i + 1)) i taken (ap (λ (k : ℕ). check_from calls room k i taken) (sym e) ∙ h)
@@ -74,19 +75,19 @@ starts calls room n taken e =
     )
 
 -- no call is left
-pub all-checked : (calls : List ℕ) (room : Amounts) (i : ℕ) (taken : Amounts) (k : ℕ) → k ≡ 0 → Ran ≡ check_from calls room k i taken
+pub all-checked : (calls : List ℕ) (room : Amounts) (i : ℕ) (taken : Amounts) (k : ℕ) → k ≡ 0 → Ok tt ≡ check_from calls room k i taken
 unfolding check_from
 all-checked calls room i taken k e = sym (ap (λ (j : ℕ). check_from calls room j i taken) e)
 
 -- a list that is run has whole calls, and as many places for answers
-pub lengths : (l : Lent) (a : ℕ) → outcome_of l a ≡ Ran
-    → (length l.calls % 8 ≡ 0) × (a ≡ length l.calls) × (check_from l.calls (room l) (length l.calls / 8) 0 nothing ≡ Ran)
+pub lengths : (l : Lent) (a : ℕ) → outcome_of l a ≡ Ok tt
+    → (length l.calls % 8 ≡ 0) × (a ≡ length l.calls) × (check_from l.calls (room l) (length l.calls / 8) 0 nothing ≡ Ok tt)
 unfolding outcome_in pick
 lengths l a h = go (eqb (length l.calls % 8) 0) (eqb a (length l.calls)) refl refl h
   where
     go : (b c : Bool) → eqb (length l.calls % 8) 0 ≡ b → eqb a (length l.calls) ≡ c
-        → pick b (pick c (check_from l.calls (room l) (length l.calls / 8) 0 nothing) Lengths) Lengths ≡ Ran
-        → (length l.calls % 8 ≡ 0) × (a ≡ length l.calls) × (check_from l.calls (room l) (length l.calls / 8) 0 nothing ≡ Ran)
+        → pick b (pick c (check_from l.calls (room l) (length l.calls / 8) 0 nothing) (Err Lengths)) (Err Lengths) ≡ Ok tt
+        → (length l.calls % 8 ≡ 0) × (a ≡ length l.calls) × (check_from l.calls (room l) (length l.calls / 8) 0 nothing ≡ Ok tt)
     go true true eb ec h = (eqb-true _ _ eb, eqb-true _ _ ec, h)
     go false c eb ec h = let z : ◌≡◌ {A = ℕ} 0 1 = cc in absurd (omega arith)
     go true false eb ec h = let z : ◌≡◌ {A = ℕ} 0 1 = cc in absurd (omega arith)
@@ -94,14 +95,14 @@ lengths l a h = go (eqb (length l.calls % 8) 0) (eqb a (length l.calls)) refl re
 -- ---- whether a list is run
 
 module _ (calls : List ℕ) (room : Amounts) (answers : ℕ) where
-  pub not-whole : (length calls % 8 ≡ 0 → ⊥) → Lengths ≡ outcome_in calls room answers
+  pub not-whole : (length calls % 8 ≡ 0 → ⊥) → Err Lengths ≡ outcome_in calls room answers
   unfolding outcome_in
   not-whole h = sym (pick-f _ _ _ (ne_eqb _ _ h))
 
-  pub not-as-many : length calls % 8 ≡ 0 → (answers ≡ length calls → ⊥) → Lengths ≡ outcome_in calls room answers
+  pub not-as-many : length calls % 8 ≡ 0 → (answers ≡ length calls → ⊥) → Err Lengths ≡ outcome_in calls room answers
   unfolding outcome_in
   not-as-many h k = sym (pick-t _ _ _ (eq-eqb _ _ h) ∙ pick-f _ _ _ (ne_eqb _ _ k))
 
-  pub by-each : length calls % 8 ≡ 0 → answers ≡ length calls → (t : Outcome) → t ≡ check_from calls room (length calls / 8) 0 nothing → t ≡ outcome_in calls room answers
+  pub by-each : length calls % 8 ≡ 0 → answers ≡ length calls → (t : Result ⊤ ListError) → t ≡ check_from calls room (length calls / 8) 0 nothing → t ≡ outcome_in calls room answers
   unfolding outcome_in
   by-each h k t e = e ∙ sym (pick-t _ _ _ (eq-eqb _ _ h) ∙ pick-t _ _ _ (eq-eqb _ _ k))

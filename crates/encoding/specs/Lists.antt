@@ -1,11 +1,11 @@
 -- A list of calls in lent buffers: which calls it is, and how a bad one is refused. Definitions only.
-use Rattle.std.specs.Prelude.{ℕ, zero, suc, ◌+◌, ◌-◌, ◌*◌, ◌/◌, ◌%◌, Bool, true, false, List, [], ◌∷◌, length, take, drop, eqb, Float}
+use Rattle.std.specs.Prelude.{⊤, ℕ, zero, suc, ◌+◌, ◌-◌, ◌*◌, ◌/◌, ◌%◌, Bool, true, false, List, [], ◌∷◌, length, take, drop, eqb, Float, Result, Ok, Err}
+use Rattle.encoding.specs.declared.check.ListError.{ListError}
+use Rattle.encoding.specs.declared.check.ListError.TheVariants.{NotOpened, Lengths, NoCall, NoRoom}
 use Rattle.base.specs.Pick.{pick}
 use Rattle.model.specs.Host.{Call}
 use Rattle.encoding.specs.Words.{words_at, is_call, taken_by, nothing, plus, within, call_of}
 use Rattle.encoding.specs.declared.words.Amounts.{Amounts}
-use Rattle.encoding.specs.declared.check.Outcome.{Outcome}
-use Rattle.encoding.specs.declared.check.Outcome.TheVariants.{Ran, NotOpened, Lengths, NoCall, NoRoom}
 
 -- what is lent, as it is at the call; the answers have a buffer of their own, of which nothing is read
 pub record Lent : Type 0 where
@@ -54,24 +54,17 @@ decoded l = calls_from l (length l.calls / 8) 0 nothing
 
 -- ---- whether it is run
 
-unfoldable pub check_from : List ℕ → Amounts → ℕ → ℕ → Amounts → Outcome
-check_from calls room zero i taken = Ran
+unfoldable pub check_from : List ℕ → Amounts → ℕ → ℕ → Amounts → Result ⊤ ListError
+check_from calls room zero i taken = Ok tt
 check_from calls room (suc k) i taken =
     pick (is_call (words_at calls (8 * i)))
-    (pick (within (taken_with calls i taken) room) (check_from calls room k (i + 1) (taken_with calls i taken)) (NoRoom i))
-    (NoCall i)
+    (pick (within (taken_with calls i taken) room) (check_from calls room k (i + 1) (taken_with calls i taken)) (Err (NoRoom i)))
+    (Err (NoCall i))
 
 -- with so much room, and so many places for answers
-unfoldable pub outcome_in : List ℕ → Amounts → ℕ → Outcome
+unfoldable pub outcome_in : List ℕ → Amounts → ℕ → Result ⊤ ListError
 outcome_in calls room answers =
-    pick (eqb (length calls % 8) 0) (pick (eqb answers (length calls)) (check_from calls room (length calls / 8) 0 nothing) Lengths) Lengths
+    pick (eqb (length calls % 8) 0) (pick (eqb answers (length calls)) (check_from calls room (length calls / 8) 0 nothing) (Err Lengths)) (Err Lengths)
 
-abbrev pub outcome_of : Lent → ℕ → Outcome
+abbrev pub outcome_of : Lent → ℕ → Result ⊤ ListError
 outcome_of l answers = outcome_in l.calls (room l) answers
-
-abbrev pub is_ran : Outcome → Bool
-is_ran Ran = true
-is_ran NotOpened = false
-is_ran Lengths = false
-is_ran (NoCall i) = false
-is_ran (NoRoom i) = false

@@ -22,7 +22,7 @@ pub const NUMBERS: usize = 6;
 
 pub const PLACES: usize = 7;
 
-// The kinds.
+// The kinds: numbers, since a list comes in as numbers.
 pub const BEGIN: u64 = 0;
 
 pub const PASS: u64 = 1;

@@ -1,4 +1,5 @@
 -- An account stands when a session is opened, after each call that is run and noted, and is demand 3's. Assumes nothing.
+use Rattle.std.specs.Prelude.{is_ok, Ok}
 use Prim.Native.Nat.{ℕ, ◌+◌, ◌*◌, ◌/◌, ◌%◌, ◌^◌}
 use mathlib.Core.Path.{◌≡◌, refl, sym, ap, subst, ◌∙◌}
 use mathlib.Core.Bool.{true}
@@ -18,7 +19,7 @@ use Rattle.model.specs.Session.{step, opened_with, session}
 use Rattle.model.specs.declared.settings.Settings.{Settings}
 use Rattle.account.specs.Ledger.{calls_of}
 use Rattle.encoding.specs.Words.{words_at, taken_by, nothing}
-use Rattle.encoding.specs.Lists.{Lent, part, is_ran, call_at, calls_from, decoded}
+use Rattle.encoding.specs.Lists.{Lent, part, call_at, calls_from, decoded}
 use Rattle.answers.specs.Code.{answer_of, answer_in}
 use Rattle.replay.specs.Runs.{host}
 use Rattle.replay.specs.Replay.{reply_at, replies_from, replies_in, numbered}
@@ -35,7 +36,6 @@ use Rattle.tally.specs.declared.record.Record.{Record}
 use Rattle.tally.specs.declared.stretch.Stretch.{Stretch}
 use Rattle.tally.specs.declared.account.Account.{Account}
 use Rattle.tally.specs.declared.account.Noted.{Noted}
-use Rattle.encoding.specs.declared.check.Outcome.TheVariants.{Ran}
 use Rattle.examining.specs.Marks.{note_run, table_run, Marks}
 use Rattle.examining.specs.Stands.{Stands}
 use Rattle.examining.specs.declared.sitting.Sitting.{Sitting}
@@ -127,13 +127,13 @@ module _ (l : Lent) (size : length l.calls ≡ 8) where
   one-reply answers packets places = ap (λ (n : ℕ). replies_from l.calls (n / 8) 0 nothing answers packets places) size
 
 pub marked-stands : (r : Sitting) (st : State) (l : Lent) (a : Account) (answers₀ answers packets : List ℕ) (places : List Float) (st' : State) (t t' : List ℕ)
-    → Marks r st l a answers₀ answers packets places st' t t' → r.outcome ≡ Ran → r.fits ≡ true → Stands st t a → Stands st' t' r.account
+    → Marks r st l a answers₀ answers packets places st' t t' → r.outcome ≡ Ok tt → r.fits ≡ true → Stands st t a → Stands st' t' r.account
 unfolding note_run table_run
 marked-stands r st l a answers₀ answers packets places st' t t' m ran fits x =
     let w = words_at l.calls 0 in
     let ans = answer_in answers in
-    let e : record { account = r.account; fits = r.fits } ≡ note_of a w l.octets ans = m.account ∙ pick-t _ _ _ (ap is_ran ran) in
-    let f : t' ≡ table_of t a w l.octets ans = m.table ∙ pick-t _ _ _ (ap is_ran ran) in
+    let e : record { account = r.account; fits = r.fits } ≡ note_of a w l.octets ans = m.account ∙ pick-t _ _ _ (ap is_ok ran) in
+    let f : t' ≡ table_of t a w l.octets ans = m.table ∙ pick-t _ _ _ (ap is_ok ran) in
     let runs = carries-runs r.outcome st l answers₀ answers packets places st' m.carries ran in
     let c = call_at l 0 nothing in
     let y = reply_at l.calls 0 nothing answers packets places in

@@ -1,12 +1,13 @@
 -- A session and its account, opened, after a call, and where the account is told. Definitions only.
-use Rattle.std.specs.Prelude.{ℕ, ◌≡◌, true, List, length, Float, T}
+use Rattle.std.specs.Prelude.{is_ok, ⊤, ℕ, ◌≡◌, true, List, length, Float, T, Result, Ok}
+use Rattle.encoding.specs.declared.check.ListError.{ListError}
 use Rattle.base.specs.Pick.{pick}
 use Rattle.model.specs.Settings.{settings_told, accepts}
 use Rattle.model.specs.Open.{opened}
 use Rattle.model.specs.State.{State, left}
 use Rattle.health.specs.Counters.{loss_total}
 use Rattle.encoding.specs.Words.{words_at}
-use Rattle.encoding.specs.Lists.{Lent, is_ran}
+use Rattle.encoding.specs.Lists.{Lent}
 use Rattle.answers.specs.Code.{answer_in}
 use Rattle.opening.specs.Refusal.{number_of}
 use Rattle.replay.specs.Runs.{Carries}
@@ -14,8 +15,6 @@ use Rattle.tally.specs.Table.{empty, fitting}
 use Rattle.marking.specs.Noting.{note_of, table_of}
 use Rattle.model.specs.declared.session.Session.{Session}
 use Rattle.model.specs.declared.settings.Settings.{Settings}
-use Rattle.encoding.specs.declared.check.Outcome.{Outcome}
-use Rattle.encoding.specs.declared.check.Outcome.TheVariants.{Ran}
 use Rattle.tally.specs.declared.account.Account.{Account}
 use Rattle.tally.specs.declared.account.Noted.{Noted}
 use Rattle.tally.specs.declared.rows.End.{End}
@@ -25,18 +24,18 @@ use Rattle.examining.specs.declared.sitting.Seated.{Seated}
 pub record Sits (r : Seated) (s : Settings) (opening : ℕ) : Type 0 where
   pub session : r.sitting.session ≡ opened s opening
   pub account : r.sitting.account ≡ empty
-  pub outcome : r.sitting.outcome ≡ Ran
+  pub outcome : r.sitting.outcome ≡ Ok tt
   pub fits : r.sitting.fits ≡ true
   -- by the settings' row, or 0 where they are accepted
   pub refused : r.refused ≡ number_of (settings_told s)
   pub accepted : r.refused ≡ 0 → T (accepts s)
 
 -- what is noted of a call that was run, from its numbers and its answer's; of one that was not, nothing
-unfoldable pub note_run : Outcome → Account → Lent → List ℕ → Noted
-note_run outcome a l answers = pick (is_ran outcome) (note_of a (words_at l.calls 0) l.octets (answer_in answers)) (fitting a)
+unfoldable pub note_run : Result ⊤ ListError → Account → Lent → List ℕ → Noted
+note_run outcome a l answers = pick (is_ok outcome) (note_of a (words_at l.calls 0) l.octets (answer_in answers)) (fitting a)
 
-unfoldable pub table_run : Outcome → List ℕ → Account → Lent → List ℕ → List ℕ
-table_run outcome t a l answers = pick (is_ran outcome) (table_of t a (words_at l.calls 0) l.octets (answer_in answers)) t
+unfoldable pub table_run : Result ⊤ ListError → List ℕ → Account → Lent → List ℕ → List ℕ
+table_run outcome t a l answers = pick (is_ok outcome) (table_of t a (words_at l.calls 0) l.octets (answer_in answers)) t
 
 pub record Rooms (l : Lent) (answers : ℕ) : Type 0 where
   pub octets : length l.octets ≡ 2048

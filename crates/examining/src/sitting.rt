@@ -4,7 +4,7 @@ ghost use Rattle.model.specs.Gives.{joined};
 ghost use Rattle.encoding.specs.Lists.{lent_by};
 ghost use Rattle.examining.specs.Marks.{Sits, Marks, end_of};
 
-use encoding::check::{Outcome, is_ran};
+use encoding::check::ListError;
 use marking::note::note;
 use model::session::Session;
 use model::settings::Settings;
@@ -21,7 +21,7 @@ pub struct Sitting {
     pub session: Session,
     pub account: Account,
     // what became of the last call: whether it was run, and noted
-    pub outcome: Outcome,
+    pub outcome: Result<(), ListError>,
     pub fits: bool,
 }
 
@@ -43,7 +43,7 @@ pub fn sit(settings: Settings, opening: u64) -> Seated
     let sitting = Sitting {
         session,
         account,
-        outcome: Outcome::Ran,
+        outcome: Ok(()),
         fits: true,
     };
     Seated {
@@ -75,7 +75,7 @@ pub fn mark(
     let r = carry_on(s, samples, call, octets, numbers, packets, places, answers);
     let outcome = r.outcome;
     let session = r.session;
-    if !is_ran(outcome) {
+    if !outcome.is_ok() {
         return Sitting {
             session,
             account: a,

@@ -28,35 +28,23 @@ impl InputHealthCounters {
     }
 
     // n datagrams were lost.
-    pub fn record_dropped(self, n: u64) -> Self
-        ensures { result ≡ count_dropped self n }
+    pub fn record_dropped(&mut self, n: u64)
+        ensures { self.new ≡ count_dropped self.old n }
     {
-        Self {
-            dropped_packets: std::num::wrapping_add_u64(self.dropped_packets, n),
-            gaps_detected: self.gaps_detected,
-            malformed_packets: self.malformed_packets,
-        }
+        self.dropped_packets = self.dropped_packets.wrapping_add(n);
     }
 
     // One gap, of however many datagrams.
-    pub fn record_gap(self) -> Self
-        ensures { result ≡ count_gap self }
+    pub fn record_gap(&mut self)
+        ensures { self.new ≡ count_gap self.old }
     {
-        Self {
-            dropped_packets: self.dropped_packets,
-            gaps_detected: std::num::wrapping_add_u64(self.gaps_detected, 1),
-            malformed_packets: self.malformed_packets,
-        }
+        self.gaps_detected = self.gaps_detected.wrapping_add(1);
     }
 
-    pub fn record_malformed(self) -> Self
-        ensures { result ≡ count_malformed self }
+    pub fn record_malformed(&mut self)
+        ensures { self.new ≡ count_malformed self.old }
     {
-        Self {
-            dropped_packets: self.dropped_packets,
-            gaps_detected: self.gaps_detected,
-            malformed_packets: std::num::wrapping_add_u64(self.malformed_packets, 1),
-        }
+        self.malformed_packets = self.malformed_packets.wrapping_add(1);
     }
 
     // The samples of the datagrams lost, modulo 2^64. The product is taken in two parts, of which neither passes 2^64.
@@ -65,6 +53,6 @@ impl InputHealthCounters {
     {
         let low = self.dropped_packets % EIGHTH_OCTET * SAMPLES_PER_DATAGRAM;
         let high = self.dropped_packets / EIGHTH_OCTET * SAMPLES_PER_DATAGRAM % 256 * EIGHTH_OCTET;
-        std::num::wrapping_add_u64(high, low)
+        high.wrapping_add(low)
     }
 }

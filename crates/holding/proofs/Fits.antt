@@ -1,4 +1,6 @@
 -- A call that a line was read as is always run: its numbers are within the rooms that are lent for it. Assumes nothing.
+use Rattle.std.specs.Prelude.{is_ok, ⊤, Result, Ok}
+use Rattle.encoding.specs.declared.check.ListError.{ListError}
 use Prim.Native.Nat.{ℕ, ◌/◌, ◌%◌, ◌≤◌, ◌^◌}
 use mathlib.Core.Path.{◌≡◌, refl, sym, ap, ◌∙◌}
 use mathlib.Core.Bool.{Bool, true, ◌&&◌}
@@ -11,11 +13,9 @@ use borrow.Author.Tests.{le-leb, eq-eqb, eqb-true}
 use Rattle.base.proofs.Picks.{pick-t, pick-either}
 use Rattle.model.specs.State.{State}
 use Rattle.encoding.specs.Words.{words_at, is_call, lends_packets, if_used, taken_by, nothing, within}
-use Rattle.encoding.specs.Lists.{Lent, room, taken_with, check_from, outcome_in, outcome_of, is_ran}
+use Rattle.encoding.specs.Lists.{Lent, room, taken_with, check_from, outcome_in, outcome_of}
 use Rattle.replay.specs.Runs.{Left, carried, Carries}
 use Rattle.encoding.specs.declared.words.Words.{Words}
-use Rattle.encoding.specs.declared.check.Outcome.{Outcome}
-use Rattle.encoding.specs.declared.check.Outcome.TheVariants.{Ran}
 use Rattle.examining.specs.Marks.{Rooms}
 use Rattle.lines.specs.Call.{Fit}
 
@@ -43,11 +43,11 @@ module _ (l : Lent) (answers : ℕ) (one : length l.calls ≡ 8) (r : Rooms l an
       (both _ _ (le-leb _ (length l.numbers) (omega (arith, n, r.numbers)))
       (both _ _ (le-leb _ (length l.packets) (omega (arith, p, r.packets))) (le-leb _ (length l.places) (omega (arith, q, r.places)))))
 
-  checked : check_from l.calls (room l) 1 0 nothing ≡ Ran
+  checked : check_from l.calls (room l) 1 0 nothing ≡ Ok tt
   unfolding check_from
   checked = pick-t _ _ _ is-call ∙ pick-t _ _ _ has_room
 
-  fit-runs : outcome_of l answers ≡ Ran
+  fit-runs : outcome_of l answers ≡ Ok tt
   unfolding outcome_in
   fit-runs =
       pick-t _ _ _ (ap (λ (n : ℕ). eqb (n % 8) 0) one)
@@ -56,8 +56,8 @@ module _ (l : Lent) (answers : ℕ) (one : length l.calls ≡ 8) (r : Rooms l an
       ∙ checked
 
 -- what the code says became of it
-pub fit-ran : (outcome : Outcome) (st : State) (l : Lent) (answers₀ answers packets : List ℕ) (places : List Float) (st' : State)
-    → Carries outcome st l answers₀ answers packets places st' → length l.calls ≡ 8 → Rooms l (length answers₀) → Fit l.calls → outcome ≡ Ran
+pub fit-ran : (outcome : Result ⊤ ListError) (st : State) (l : Lent) (answers₀ answers packets : List ℕ) (places : List Float) (st' : State)
+    → Carries outcome st l answers₀ answers packets places st' → length l.calls ≡ 8 → Rooms l (length answers₀) → Fit l.calls → outcome ≡ Ok tt
 unfolding carried
 fit-ran outcome st l answers₀ answers packets places st' c one r h =
-    ap (λ (x : Left). x.outcome) (c.leaves ∙ pick-t _ _ _ (ap is_ran (fit-runs l (length answers₀) one r h)))
+    ap (λ (x : Left). x.outcome) (c.leaves ∙ pick-t _ _ _ (ap is_ok (fit-runs l (length answers₀) one r h)))

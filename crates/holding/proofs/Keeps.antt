@@ -1,4 +1,5 @@
 -- Where the session in hand says that its account stands, it does. Assumes nothing.
+use Rattle.std.specs.Prelude.{is_ok, Ok}
 use Prim.Native.Nat.{ℕ, ◌*◌}
 use mathlib.Core.Path.{◌≡◌, refl, sym, ap, subst, ◌∙◌}
 use mathlib.Core.Bool.{Bool, true, false, not, ◌&&◌}
@@ -16,11 +17,10 @@ use Rattle.account.proofs.Verdict.{and_left, and_right}
 use Rattle.lines.specs.Call.{Fit}
 use Rattle.lines.specs.Open.{opening_of}
 use Rattle.lines.specs.declared.Opening.{Opening}
-use Rattle.encoding.specs.Lists.{Lent, is_ran}
+use Rattle.encoding.specs.Lists.{Lent}
 use Rattle.replay.proofs.Chunks.{ran-is}
 use Rattle.tally.specs.Table.{most_stretches, empty}
 use Rattle.tally.specs.declared.account.Account.{Account}
-use Rattle.encoding.specs.declared.check.Outcome.TheVariants.{Ran}
 use Rattle.examining.specs.Marks.{Sits, Marks}
 use Rattle.examining.specs.Stands.{Stands}
 use Rattle.examining.proofs.Standings.{opened-stands, marked-stands}
@@ -52,7 +52,7 @@ opened-by r line o e h = record { sits = subst (λ (x : Opening). Sits r x.setti
 module _ (h r : Held) (samples : List Float) (l : Lent) (answers₀ answers packets : List ℕ) (places samples' : List Float) (t t' : List ℕ)
     (g : Goes h r samples l answers₀ answers packets places samples' t t') where
   -- what a line was read as is always run
-  pub goes-ran : Fit l.calls → r.sitting.outcome ≡ Ran
+  pub goes-ran : Fit l.calls → r.sitting.outcome ≡ Ok tt
   goes-ran f = fit-ran r.sitting.outcome _ l answers₀ answers packets places _ g.marks.carries g.marks.one g.marks.lent f
 
   pub goes-holds : Holds h samples t → Holds r samples' t'
@@ -60,17 +60,17 @@ module _ (h r : Held) (samples : List Float) (l : Lent) (answers₀ answers pack
       record {
         account = λ e.
             let b = sym g.stands ∙ e in
-            let c = and_left (h.stands && is_ran r.sitting.outcome) r.sitting.fits b in
+            let c = and_left (h.stands && is_ok r.sitting.outcome) r.sitting.fits b in
             marked-stands r.sitting _ l h.sitting.account answers₀ answers packets places _ t t' g.marks
-            (ran-is r.sitting.outcome (and_right h.stands (is_ran r.sitting.outcome) c))
-            (and_right (h.stands && is_ran r.sitting.outcome) r.sitting.fits b)
-            (x.account (and_left h.stands (is_ran r.sitting.outcome) c));
+            (ran-is r.sitting.outcome (and_right h.stands (is_ok r.sitting.outcome) c))
+            (and_right (h.stands && is_ok r.sitting.outcome) r.sitting.fits b)
+            (x.account (and_left h.stands (is_ok r.sitting.outcome) c));
       }
 
 -- as the code puts them together
 pub goes-as : (h : Held) (r : Sitting) (samples samples' : List Float) (l : Lent) (answers₀ answers packets : List ℕ) (places : List Float) (t t' : List ℕ) (ran stands : Bool)
     → Marks r (joined h.sitting.session samples) l h.sitting.account answers₀ answers packets places (joined r.session samples') t t'
-    → ran ≡ is_ran r.outcome → stands ≡ h.stands && ran && r.fits
+    → ran ≡ is_ok r.outcome → stands ≡ h.stands && ran && r.fits
     → Goes h (record { sitting = r; stands = stands; refused = 0 }) samples l answers₀ answers packets places samples' t t'
 goes-as h r samples samples' l answers₀ answers packets places t t' ran stands m e f =
     record { marks = m; stands = f ∙ ap (λ (b : Bool). h.stands && b && r.fits) e; refused = refl }

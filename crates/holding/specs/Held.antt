@@ -1,8 +1,8 @@
 -- The session that a program holds, and its account. Definitions only.
-use Rattle.std.specs.Prelude.{ℕ, ◌≡◌, true, ◌&&◌, List, eqb, Float}
+use Rattle.std.specs.Prelude.{is_ok, ℕ, ◌≡◌, true, ◌&&◌, List, eqb, Float}
 use Rattle.model.specs.Gives.{joined}
 use Rattle.lines.specs.Open.{opening_of}
-use Rattle.encoding.specs.Lists.{Lent, is_ran}
+use Rattle.encoding.specs.Lists.{Lent}
 use Rattle.examining.specs.Marks.{Sits, Marks}
 use Rattle.examining.specs.Stands.{Stands, Standing}
 use Rattle.holding.specs.declared.Held.{Held}
@@ -16,7 +16,7 @@ pub record Opens (h : Held) (line : List ℕ) : Type 0 where
 pub record Goes (h r : Held) (samples : List Float) (l : Lent) (answers₀ answers packets : List ℕ) (places samples' : List Float) (t t' : List ℕ) : Type 0 where
   pub marks :
       Marks r.sitting (joined h.sitting.session samples) l h.sitting.account answers₀ answers packets places (joined r.sitting.session samples') t t'
-  pub stands : r.stands ≡ h.stands && is_ran r.sitting.outcome && r.sitting.fits
+  pub stands : r.stands ≡ h.stands && is_ok r.sitting.outcome && r.sitting.fits
   pub refused : r.refused ≡ 0
 
 -- where it says that the account stands, it does

@@ -5,7 +5,6 @@ ghost use Rattle.std.specs.Prelude.{◌≡◌, ◌&&◌};
 ghost use Rattle.encoding.specs.Lists.{lent_by};
 ghost use Rattle.holding.specs.Held.{Opens, Goes, Holds};
 
-use encoding::check::is_ran;
 use examining::sitting::{Sitting, mark, sit};
 use lines::read_open;
 use stream::F32_PER_DATAGRAM;
@@ -92,7 +91,7 @@ pub fn called(
         s, a, samples, call, octets, numbers, packets, places, answers, table,
     );
     let outcome = sitting.outcome;
-    let ran = is_ran(outcome);
+    let ran = outcome.is_ok();
     let stands = all(h.stands, ran, sitting.fits);
     Held {
         sitting,

@@ -1,4 +1,7 @@
 -- The rows of an I/Q datagram's header, in order, and what a header that passed them tells of the datagram. Assumes nothing.
+use Rattle.std.specs.Prelude.{Result, Ok, Err}
+use Rattle.iq.specs.declared.IqError.{IqError}
+use Rattle.iq.specs.declared.IqError.TheVariants.{Length, BitsPerSample, SamplesPerFrame, NoRoom}
 use Prim.Native.Nat.{ℕ, ◌≤◌, ◌<◌}
 use mathlib.Core.Path.{◌≡◌, refl, sym, ap, ◌∙◌}
 use mathlib.Core.Bool.{Bool, true, false, not}
@@ -14,8 +17,6 @@ use Rattle.octets.specs.Written.{written}
 use Rattle.base.proofs.Picks.{pick-t, pick-f}
 use Rattle.base.specs.Told.{Told, gives, refused}
 use Rattle.iq.specs.Iq.{samples_of, count_of, rows, header_told, parse_told, iq_answer, parse_out, Parsed}
-use Rattle.iq.specs.declared.IqAnswer.{IqAnswer}
-use Rattle.iq.specs.declared.IqAnswer.TheVariants.{Accepted, Length, BitsPerSample, SamplesPerFrame, NoRoom}
 
 -- ---- the rows, one after the other, whatever comes after them
 
@@ -82,33 +83,32 @@ module _ (b : List ℕ) where
   refused-alike k vs room h = kept (eqb (length b) 1444) (eqb (be_at 2 b 12) 24) (eqb (be_at 2 b 14) 238) _ _ _ k _ _ _ (be_at 4 b 0 ∷ []) vs _ h
 
 module _ (b : List ℕ) (d : List Float) where
-  parsed-refused : (r : IqAnswer) (k : ℕ) (vs : List ℕ) → iq_answer r ≡ refused k vs → refused k vs ≡ parse_told b (length d) → Parsed b d r d
+  parsed-refused : (r : Result ℕ IqError) (k : ℕ) (vs : List ℕ) → iq_answer r ≡ refused k vs → refused k vs ≡ parse_told b (length d) → Parsed b d r d
   unfolding parse_out
   parsed-refused r k vs e h = record { answer = e ∙ h; holds = ap (λ (t : Told). parse_out t b d) h }
 
   -- every answer but a count is the header's own, and the output is left alone
-  pub parsed-bad : (r : IqAnswer) → ((seq : ℕ) → r ≡ Accepted seq → ⊥) → iq_answer r ≡ header_told b → Parsed b d r d
-  parsed-bad (Accepted seq) n h = absurd (n seq refl)
-  parsed-bad (Length k) n h = parsed-refused (Length k) 7 (k ∷ []) refl (refused-alike b 7 (k ∷ []) (length d) h)
-  parsed-bad (BitsPerSample v) n h = parsed-refused (BitsPerSample v) 8 (v ∷ []) refl (refused-alike b 8 (v ∷ []) (length d) h)
-  parsed-bad (SamplesPerFrame v) n h = parsed-refused (SamplesPerFrame v) 9 (v ∷ []) refl (refused-alike b 9 (v ∷ []) (length d) h)
-  parsed-bad NoRoom n h = parsed-refused NoRoom 16 [] refl (refused-alike b 16 [] (length d) h)
+  pub parsed-bad : (e : IqError) → iq_answer (Err e) ≡ header_told b → Parsed b d (Err e) d
+  parsed-bad (Length k) h = parsed-refused (Err (Length k)) 7 (k ∷ []) refl (refused-alike b 7 (k ∷ []) (length d) h)
+  parsed-bad (BitsPerSample v) h = parsed-refused (Err (BitsPerSample v)) 8 (v ∷ []) refl (refused-alike b 8 (v ∷ []) (length d) h)
+  parsed-bad (SamplesPerFrame v) h = parsed-refused (Err (SamplesPerFrame v)) 9 (v ∷ []) refl (refused-alike b 9 (v ∷ []) (length d) h)
+  parsed-bad NoRoom h = parsed-refused (Err NoRoom) 16 [] refl (refused-alike b 16 [] (length d) h)
 
   module _ (seq : ℕ) (h : gives (seq ∷ []) ≡ header_told b) where
     roomed : parse_told b (length d) ≡ pick (ltb (length d) 476) (refused 16 []) (count_of b)
     unfolding parse_told
     roomed = let t = right-header b seq h in past b (pick (ltb (length d) 476) (refused 16 []) (count_of b)) t.0 t.1 t.2
 
-    pub parsed-no-room : length d < 476 → Parsed b d NoRoom d
-    parsed-no-room l = parsed-refused NoRoom 16 [] refl (sym (roomed ∙ pick-t _ _ _ (lt-ltb (length d) 476 l)))
+    pub parsed-no-room : length d < 476 → Parsed b d (Err NoRoom) d
+    parsed-no-room l = parsed-refused (Err NoRoom) 16 [] refl (sym (roomed ∙ pick-t _ _ _ (lt-ltb (length d) 476 l)))
 
-    pub parsed-count : (e : List Float) → 476 ≤ length d → e ≡ written d 0 (samples_of b) → Parsed b d (Accepted seq) e
+    pub parsed-count : (e : List Float) → 476 ≤ length d → e ≡ written d 0 (samples_of b) → Parsed b d (Ok seq) e
     unfolding parse_out
     parsed-count e l w =
         let t : gives (seq ∷ []) ≡ parse_told b (length d) = ap (λ (n : ℕ). gives (n ∷ [])) (right-header b seq h).3 ∙ sym (roomed ∙ pick-f _ _ _ (le-ltb (length d) 476 l)) in
         record { answer = t; holds = w ∙ ap (λ (t : Told). parse_out t b d) t }
 
     -- what the parser leaves of a datagram with a right header, in a buffer with room
-    pub parsed-samples : (r : IqAnswer) (e : List Float) → 476 ≤ length d → Parsed b d r e → e ≡ written d 0 (samples_of b)
+    pub parsed-samples : (r : Result ℕ IqError) (e : List Float) → 476 ≤ length d → Parsed b d r e → e ≡ written d 0 (samples_of b)
     unfolding parse_out
     parsed-samples r e l p = p.holds ∙ ap (λ (t : Told). parse_out t b d) (roomed ∙ pick-f _ _ _ (le-ltb (length d) 476 l))

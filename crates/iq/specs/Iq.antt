@@ -1,5 +1,7 @@
 -- The I/Q datagram: count, bits at 12, samples at 14; from 16 on I and Q in turn, 24-bit signed and over 2^23. Definitions only.
-use Rattle.std.specs.Prelude.{ℕ, ◌+◌, ◌-◌, ◌*◌, Bool, not, ◌≡◌, List, [], ◌∷◌, length, ltb, leb, eqb, Float}
+use Rattle.std.specs.Prelude.{ℕ, ◌+◌, ◌-◌, ◌*◌, Bool, not, ◌≡◌, List, [], ◌∷◌, length, ltb, leb, eqb, Float, Result, Ok, Err}
+use Rattle.iq.specs.declared.IqError.{IqError}
+use Rattle.iq.specs.declared.IqError.TheVariants.{Length, BitsPerSample, SamplesPerFrame, NoRoom}
 use Rattle.std.specs.Float.{binary32}
 use Rattle.std.specs.Float.Ieee.{round}
 use Rattle.stream.specs.Size.{per_datagram}
@@ -8,8 +10,6 @@ use Rattle.octets.specs.Table.{tab}
 use Rattle.octets.specs.Number.{be_at}
 use Rattle.octets.specs.Written.{written}
 use Rattle.base.specs.Told.{Told, gives, refused}
-use Rattle.iq.specs.declared.IqAnswer.{IqAnswer}
-use Rattle.iq.specs.declared.IqAnswer.TheVariants.{Accepted, Length, BitsPerSample, SamplesPerFrame, NoRoom}
 
 -- 24 bits as a signed number: whether it is below 0, and its size
 abbrev pub minus : ℕ → Bool
@@ -45,18 +45,18 @@ header_told b = rows b (count_of b)
 unfoldable pub parse_told : List ℕ → ℕ → Told
 parse_told b room = rows b (pick (ltb room 476) (refused 16 []) (count_of b))
 
-abbrev pub iq_answer : IqAnswer → Told
-iq_answer (Accepted seq) = gives (seq ∷ [])
-iq_answer (Length n) = refused 7 (n ∷ [])
-iq_answer (BitsPerSample v) = refused 8 (v ∷ [])
-iq_answer (SamplesPerFrame v) = refused 9 (v ∷ [])
-iq_answer NoRoom = refused 16 []
+abbrev pub iq_answer : Result ℕ IqError → Told
+iq_answer (Ok seq) = gives (seq ∷ [])
+iq_answer (Err (Length n)) = refused 7 (n ∷ [])
+iq_answer (Err (BitsPerSample v)) = refused 8 (v ∷ [])
+iq_answer (Err (SamplesPerFrame v)) = refused 9 (v ∷ [])
+iq_answer (Err NoRoom) = refused 16 []
 
 -- an accepted datagram's samples stand at the front, the rest is untouched; a refusal changes nothing
 unfoldable pub parse_out : Told → List ℕ → List Float → List Float
 parse_out (gives vs) b d = written d 0 (samples_of b)
 parse_out (refused k vs) b d = d
 
-pub record Parsed (b : List ℕ) (d : List Float) (r : IqAnswer) (e : List Float) : Type 0 where
+pub record Parsed (b : List ℕ) (d : List Float) (r : Result ℕ IqError) (e : List Float) : Type 0 where
   pub answer : iq_answer r ≡ parse_told b (length d)
   pub holds : e ≡ parse_out (parse_told b (length d)) b d

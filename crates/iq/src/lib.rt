@@ -25,9 +25,9 @@ pub const IQ_SAMPLES: usize = 14;
 
 pub const IQ_PAYLOAD: usize = 16;
 
+// Why a datagram is no I/Q datagram, with what it says instead; or that its samples have no room.
 #[derive(Clone, Copy)]
-pub enum IqAnswer {
-    Accepted(u32),
+pub enum IqError {
     Length(usize),
     BitsPerSample(u16),
     SamplesPerFrame(u16),
@@ -43,22 +43,12 @@ fn sample(v: u32) -> f32
     ((((v + 8388608) % 16777216) as f32) - P2_IQ_FULL_SCALE) / P2_IQ_FULL_SCALE
 }
 
-fn wide(x: u8) -> u32
-    ensures { (result ≡ x) × (result < 256) }
-{
-    x as u32
-}
-
 // The least significant octet first: a machine's own order, so that it is compiled to one load.
 fn get_u32_le(p: &[u8], at: usize) -> u32
     requires { at + 4 ≤ length p.now }
     ensures { result ≡ le_at 4 p.now at }
 {
-    let a = wide(p[at]);
-    let b = wide(p[at + 1]);
-    let c = wide(p[at + 2]);
-    let d = wide(p[at + 3]);
-    d * 16777216 + c * 65536 + b * 256 + a
+    u32::from_le_bytes([p[at], p[at + 1], p[at + 2], p[at + 3]])
 }
 
 // The upper three octets of w in the other order.
@@ -81,43 +71,38 @@ fn read_samples(buf: &[u8], out: &mut [f32])
     requires { (1444 ≤ length buf.now) × (476 ≤ length out.old) }
     ensures { out.new ≡ written out.old 0 (samples_of buf.now) }
 {
-    let mut i = 0;
-    while i < F32_PER_DATAGRAM {
+    for i in 0..F32_PER_DATAGRAM {
         out[i] = s24_after(buf, IQ_PAYLOAD - 1 + 3 * i);
-        i += 1;
     }
 }
 
 // The count of a datagram whose header is right; 7, 8 and 9 are tested here.
-pub fn iq_header(buf: &[u8]) -> IqAnswer
+pub fn iq_header(buf: &[u8]) -> Result<u32, IqError>
     ensures { iq_answer result ≡ header_told buf.now }
 {
     let n = buf.len();
     if n != IQ_DATAGRAM_LEN {
-        return IqAnswer::Length(n);
+        return Err(IqError::Length(n));
     }
     let bits = octets::get_u16(buf, IQ_BITS);
     if bits != BITS_PER_SAMPLE {
-        return IqAnswer::BitsPerSample(bits);
+        return Err(IqError::BitsPerSample(bits));
     }
     let samples = octets::get_u16(buf, IQ_SAMPLES);
     if samples != SAMPLES_PER_FRAME {
-        return IqAnswer::SamplesPerFrame(samples);
+        return Err(IqError::SamplesPerFrame(samples));
     }
-    IqAnswer::Accepted(octets::get_u32(buf, SEQ_OFFSET))
+    Ok(octets::get_u32(buf, SEQ_OFFSET))
 }
 
 // The count and the 476 f32 of a datagram, I then Q of each pair.
-pub fn parse_iq_datagram(buf: &[u8], out: &mut [f32]) -> IqAnswer
+pub fn parse_iq_datagram(buf: &[u8], out: &mut [f32]) -> Result<u32, IqError>
     ensures { Parsed buf.now out.old result out.new }
 {
-    let answer = iq_header(buf);
-    let IqAnswer::Accepted(seq) = answer else {
-        return answer;
-    };
+    let seq = iq_header(buf)?;
     if out.len() < F32_PER_DATAGRAM {
-        return IqAnswer::NoRoom;
+        return Err(IqError::NoRoom);
     }
     read_samples(buf, out);
-    IqAnswer::Accepted(seq)
+    Ok(seq)
 }

@@ -5,9 +5,8 @@ ghost use Rattle.std.specs.Prelude.{length};
 ghost use Rattle.model.specs.Sending as Sending;
 ghost use Rattle.sending.specs.Progress.{Sends, HasRoom};
 
-use attenuator::{AttenuationStep, Stepped};
+use attenuator::{AttenuationStep, Controller};
 use double::time::since;
-use model::session::{Attenuation, Attenuator};
 use sending::send::{Progress, send};
 use wire::command::Stream;
 
@@ -74,37 +73,37 @@ fn send_keepalive_if_due(p: Progress, reading: u64, packets: &mut [u8]) -> Progr
     general_if_due(specific, reading, packets)
 }
 
-// A step's high priority packet, with the new level.
-pub fn apply_step(p: Progress, stepped: Stepped, reading: u64, packets: &mut [u8]) -> Progress
+// What the controller made of a reading: a step's high priority packet has the new level.
+pub fn apply_step(
+    p: Progress,
+    controller: Controller,
+    step: Option<AttenuationStep>,
+    reading: u64,
+    packets: &mut [u8],
+) -> Progress
     requires { HasRoom 1444 1 p (length packets.old) }
-    ensures { Sends (Sending.stepped reading stepped p.common) p packets.old result packets.new }
+    ensures { Sends (Sending.stepped reading (record { step = step; controller = controller }) p.common) p packets.old
+        result packets.new }
 {
-    let controller = stepped.controller;
-    let attenuation = Attenuation::On(controller);
-    let attenuator = Attenuator { attenuation };
-    let mut common = p.common;
-    common.attenuator = attenuator;
     let mut next = p;
-    next.common = common;
-    let step = stepped.step;
-    let AttenuationStep::NoStep = step else {
-        return send_high_priority(next, reading, packets);
-    };
-    next
+    next.common.attenuation = Some(controller);
+    match step {
+        None => next,
+        Some(_) => send_high_priority(next, reading, packets),
+    }
 }
 
 // Lowers the attenuation where the quiet time is over.
 fn tick_attenuation(p: Progress, reading: u64, packets: &mut [u8]) -> Progress
     requires { HasRoom 1444 1 p (length packets.old) }
-    ensures { Sends (Sending.tick reading p.common.attenuator.attenuation p.common) p packets.old result packets.new }
+    ensures { Sends (Sending.tick reading p.common.attenuation p.common) p packets.old result packets.new }
 {
-    let attenuator = p.common.attenuator;
-    let attenuation = attenuator.attenuation;
-    let Attenuation::On(controller) = attenuation else {
+    let Some(before) = p.common.attenuation else {
         return p;
     };
-    let stepped = controller.tick(reading);
-    apply_step(p, stepped, reading, packets)
+    let mut controller = before;
+    let step = controller.tick(reading);
+    apply_step(p, controller, step, reading, packets)
 }
 
 // Keepalives, then an attenuation step's packet.

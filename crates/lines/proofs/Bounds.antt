@@ -11,15 +11,18 @@ use lib.ListN.{length, get_or, set, get_or-replicate}
 use Rattle.base.specs.Pick.{pick}
 use Rattle.base.specs.Each.{Each}
 use Rattle.base.proofs.Picks.{pick-either}
-use Rattle.text.specs.declared.Spelt.{Spelt}
-use Rattle.text.specs.declared.Spelt.TheVariants.{Number, Nothing}
-use Rattle.lines.specs.declared.option.Took.{Took}
-use Rattle.lines.specs.declared.option.Took.TheVariants.{Taken, Unknown, Unreadable}
+use Rattle.std.specs.Prelude.{Option, Some, None, Ok, Err}
+use Rattle.lines.specs.declared.option.Untaken.TheVariants.{Unknown, Unreadable}
+use Rattle.lines.specs.declared.argument.Kind.{Kind}
+use Rattle.lines.specs.declared.argument.Kind.TheVariants.{Reading}
+use Rattle.lines.specs.declared.option.Spelling.TheVariants.{Number}
 use Rattle.values.specs.Value.{given, up_to}
-use Rattle.lines.specs.Key.{buffer_key, waiting_key, length_key, bits_key, samples_key, key_count, words_at, keys_at, marks, value_count, unsaid, most_octets}
+use Rattle.lines.specs.Key.{buffer_key, waiting_key, length_key, bits_key, samples_key, key_count, word_count, unread_words, unsaid, most_octets}
 use Rattle.lines.specs.Name.{datagram_name, take_name, kinds, buffers}
 use Rattle.lines.specs.Argument.{form, most, argument_as, argument, argument_values}
-use Rattle.lines.specs.Option.{spellings, limits, spelt_as, said, key_at, value_at, equals_in, value_of, took_key, took, values_key, values_after, and_then, options_took, options_values}
+use Rattle.lines.specs.Option.{Took, Taken, spellings, limits, spelt_as, said, key_at, value_at, equals_in, value_of, took_key, took, values_key, values_after, and_then, options_took, options_values}
+use Rattle.std.specs.Option.{unwrap_or}
+use Rattle.lines.specs.declared.call.Values.{Values}
 use Rattle.lines.specs.Call.{or_else, address_of, port_of, count_of, places_of, call_of, Small, Fit}
 use Rattle.lines.proofs.Forms.{get_or-under, four-words}
 
@@ -30,50 +33,56 @@ get_or-set-le (x ∷ xs) zero v (suc k) b h e = h
 get_or-set-le (x ∷ xs) (suc i) v zero b h e = h
 get_or-set-le (x ∷ xs) (suc i) v (suc k) b h e = get_or-set-le xs i v k b h (λ q. e (ap suc q))
 
-up-to-most : (m : ℕ) (x : Spelt) → given (up_to m x) (λ n. n) 0 ≤ m
+up-to-most : (m : ℕ) (x : Option ℕ) → given (up_to m x) (λ n. n) 0 ≤ m
 unfolding given pick
-up-to-most m (Number v) = held (leb v m) refl
+up-to-most m (Some v) = held (leb v m) refl
   where
-    held : (b : Bool) → leb v m ≡ b → given (pick b (Number v) Nothing) (λ n. n) 0 ≤ m
+    held : (b : Bool) → leb v m ≡ b → given (pick b (Some v) None) (λ n. n) 0 ≤ m
     held true t = leb-true v m t
     held false t = omega arith
-up-to-most m Nothing = omega arith
+up-to-most m None = omega arith
 
--- every option's value is within its key's limit, and every word's of the form within its own
-pub record Held (name : ℕ) (l : List ℕ) : Type 0 where
-  pub options : (k : ℕ) → k < key_count → get_or l (keys_at + k) 0 ≤ get_or limits k 0
-  pub words : (j : ℕ) → j < 4 → get_or l (words_at + j) 0 ≤ get_or most (get_or (form name) j 0) 0
+-- a key's value is within its limit where it was and where what is said is
+get_or-said-le : (l : List (Option ℕ)) (i v k b : ℕ) → unwrap_or (get_or l k None) 0 ≤ b → (k ≡ i → v ≤ b) → unwrap_or (get_or (set l i (Some v)) k None) 0 ≤ b
+get_or-said-le [] i v k b h e = h
+get_or-said-le (x ∷ xs) zero v zero b h e = e refl
+get_or-said-le (x ∷ xs) zero v (suc k) b h e = h
+get_or-said-le (x ∷ xs) (suc i) v zero b h e = h
+get_or-said-le (x ∷ xs) (suc i) v (suc k) b h e = get_or-said-le xs i v k b h (λ q. e (ap suc q))
 
-pub held-unsaid : (name : ℕ) → Held name unsaid
-held-unsaid name =
-    record {
-      options = λ k h. omega (arith, get_or-replicate {A = ℕ} value_count (keys_at + k) 0 0 (omega arith));
-      words = λ j h. omega (arith, get_or-replicate {A = ℕ} value_count (words_at + j) 0 0 (omega arith));
-    }
+-- every key's value is within its key's limit
+pub record HeldKeys (l : List (Option ℕ)) : Type 0 where
+  pub options : (k : ℕ) → k < key_count → or_else l k 0 ≤ get_or limits k 0
 
-held_word : (name : ℕ) (l : List ℕ) (j v : ℕ) → j < 4 → Held name l → v ≤ get_or most (get_or (form name) j 0) 0 → Held name (set l (words_at + j) v)
-held_word name l j v o h b =
-    record {
-      options = λ k d. get_or-set-le l (words_at + j) v (keys_at + k) _ (h.options k d) (λ e. absurd (omega arith));
-      words = λ i d. get_or-set-le l (words_at + j) v (words_at + i) _ (h.words i d) (λ e. let z : i ≡ j = omega arith in rw z b);
-    }
+-- every word's of the form is within its own
+pub record HeldWords (name : ℕ) (l : List ℕ) : Type 0 where
+  pub words : (j : ℕ) → j < 4 → get_or l j 0 ≤ most (get_or (form name) j Reading)
 
-pub held-arguments : (name : ℕ) (ts : List ℕ) (ws : List (List ℕ)) (j : ℕ) (l : List ℕ) → j + length ts ≤ 4 → ((i : ℕ) → get_or ts i 0 ≡ get_or (form name) (j + i) 0)
-    → Held name l → Held name (argument_values (words_at + j) ts ws l)
+pub held-unsaid : HeldKeys unsaid
+unfolding or_else
+held-unsaid = record { options = λ k h. rw (get_or-replicate {A = Option ℕ} key_count k None None h) (omega arith) }
+
+held-unread : (name : ℕ) → HeldWords name unread_words
+held-unread name = record { words = λ j h. omega (arith, get_or-replicate {A = ℕ} word_count j 0 0 (omega arith)) }
+
+held_word : (name : ℕ) (l : List ℕ) (j v : ℕ) → HeldWords name l → v ≤ most (get_or (form name) j Reading) → HeldWords name (set l j v)
+held_word name l j v h b = record { words = λ i d. get_or-set-le l j v i _ (h.words i d) (λ z. rw z b) }
+
+pub held-arguments : (name : ℕ) (ts : List Kind) (ws : List (List ℕ)) (j : ℕ) (l : List ℕ) → j + length ts ≤ 4 → ((i : ℕ) → get_or ts i Reading ≡ get_or (form name) (j + i) Reading)
+    → HeldWords name l → HeldWords name (argument_values j ts ws l)
 unfolding argument_values argument
 held-arguments name [] ws j l d e h = h
 held-arguments name (t ∷ ts) [] j l d e h = h
 held-arguments name (t ∷ ts) (w ∷ ws) j l d e h =
     let v = given (argument t w) (λ n. n) 0 in
-    let k : t ≡ get_or (form name) j 0 = e 0 ∙ ap (λ (i : ℕ). get_or (form name) i 0) (let z : j + 0 ≡ j = omega arith in z) in
-    let o : words_at + (j + 1) ≡ words_at + j + 1 = omega arith in
-    let f : (i : ℕ) → get_or ts i 0 ≡ get_or (form name) (j + 1 + i) 0 =
-    λ i. e (suc i) ∙ ap (λ (x : ℕ). get_or (form name) x 0) (let z : j + suc i ≡ j + 1 + i = omega arith in z) in
-    rw o at (held-arguments name ts ws (j + 1) (set l (words_at + j) v) (omega arith) f (held_word name l j v (omega arith) h (omega (arith, ap (λ (x : ℕ). get_or most x 0) k, up-to-most (get_or most t 0) (argument_as t w)))))
+    let k : t ≡ get_or (form name) j Reading = e 0 ∙ ap (λ (i : ℕ). get_or (form name) i Reading) (let z : j + 0 ≡ j = omega arith in z) in
+    let f : (i : ℕ) → get_or ts i Reading ≡ get_or (form name) (j + 1 + i) Reading =
+    λ i. e (suc i) ∙ ap (λ (x : ℕ). get_or (form name) x Reading) (let z : j + suc i ≡ j + 1 + i = omega arith in z) in
+    held-arguments name ts ws (j + 1) (set l j v) (omega arith) f (held_word name l j v h (omega (arith, ap most k, up-to-most (most t) (argument_as t w))))
 
 -- ---- options
 
-took-below : (from to : ℕ) (l w : List ℕ) → took from to l w ≡ Taken → key_at (equals_in w) w < to
+took-below : (from to : ℕ) (l : List (Option ℕ)) (w : List ℕ) → took from to l w ≡ Taken → key_at (equals_in w) w < to
 unfolding took took_key pick
 took-below from to l w e = go (leb (length w) (equals_in w)) (ltb key from) (leb to key) refl e
   where
@@ -81,48 +90,48 @@ took-below from to l w e = go (leb (length w) (equals_in w)) (ltb key from) (leb
     key = key_at (equals_in w) w
 
     go : (a b c : Bool) → leb to key ≡ c
-        → pick a Unknown (pick b Unknown (pick c Unknown (pick (said l key) Unknown (given (value_of key (value_at (equals_in w) w)) (λ n. Taken) (Unreadable key))))) ≡ Taken
+        → pick a (Err Unknown) (pick b (Err Unknown) (pick c (Err Unknown) (pick (said l key) (Err Unknown) (given (value_of key (value_at (equals_in w) w)) (λ n. Taken) (Err (Unreadable key)))))) ≡ Taken
         → key < to
     go true b c q e = let z : ◌≡◌ {A = ℕ} 0 1 = cc in absurd (omega arith)
     go false true c q e = let z : ◌≡◌ {A = ℕ} 0 1 = cc in absurd (omega arith)
     go false false true q e = let z : ◌≡◌ {A = ℕ} 0 1 = cc in absurd (omega arith)
     go false false false q e = leb-false to key q
 
-held-option : (name from to : ℕ) (l w : List ℕ) → to ≤ key_count → took from to l w ≡ Taken → Held name l → Held name (values_after l w)
-unfolding values_after values_key value_of
-held-option name from to l w o t h =
+held-option : (from to : ℕ) (l : List (Option ℕ)) (w : List ℕ) → to ≤ key_count → took from to l w ≡ Taken → HeldKeys l → HeldKeys (values_after l w)
+unfolding values_after values_key value_of or_else
+held-option from to l w o t h =
     let k = key_at (equals_in w) w in
-    let b : k < to = took-below from to l w t in
-    let v = given (value_of k (value_at (equals_in w) w)) (λ n. n) 0 in
     record {
       options =
-          λ i d. get_or-set-le (set l (keys_at + k) v) (marks + k) 1 (keys_at + i) _ (get_or-set-le l (keys_at + k) v (keys_at + i) _ (h.options i d) (λ e. let z : i ≡ k = omega arith in rw z (up-to-most (get_or limits k 0) (spelt_as (get_or spellings k 0) (value_at (equals_in w) w))))) (λ e. absurd (omega arith));
-      words =
-          λ j d. get_or-set-le (set l (keys_at + k) v) (marks + k) 1 (words_at + j) _ (get_or-set-le l (keys_at + k) v (words_at + j) _ (h.words j d) (λ e. absurd (omega arith))) (λ e. absurd (omega arith));
+          λ i d. get_or-said-le l k (given (value_of k (value_at (equals_in w) w)) (λ n. n) 0) i _ (h.options i d)
+          (λ z. rw z (up-to-most (get_or limits k 0) (spelt_as (get_or spellings k Number) (value_at (equals_in w) w))));
     }
 
 and-taken : (a b : Took) → and_then a b ≡ Taken → (a ≡ Taken) × (b ≡ Taken)
 unfolding and_then
-and-taken Taken b e = (refl, e)
-and-taken Unknown b e = let z : ◌≡◌ {A = ℕ} 0 1 = cc in absurd (omega arith)
-and-taken (Unreadable k) b e = let z : ◌≡◌ {A = ℕ} 0 1 = cc in absurd (omega arith)
+and-taken (Ok u) b e = (refl, e)
+and-taken (Err x) b e = let z : ◌≡◌ {A = ℕ} 0 1 = cc in absurd (omega arith)
 
-pub held-options : (name from to : ℕ) (ws : List (List ℕ)) (l : List ℕ) → to ≤ key_count → options_took from to l ws ≡ Taken → Held name l
-    → Held name (options_values l ws)
+pub held-options : (from to : ℕ) (ws : List (List ℕ)) (l : List (Option ℕ)) → to ≤ key_count → options_took from to l ws ≡ Taken → HeldKeys l
+    → HeldKeys (options_values l ws)
 unfolding options_took options_values
-held-options name from to [] l o e h = h
-held-options name from to (w ∷ ws) l o e h =
+held-options from to [] l o e h = h
+held-options from to (w ∷ ws) l o e h =
     let t = and-taken (took from to l w) (options_took from to (values_after l w) ws) e in
-    held-options name from to ws (values_after l w) o t.1 (held-option name from to l w o t.0 h)
+    held-options from to ws (values_after l w) o t.1 (held-option from to l w o t.0 h)
 
-pub held-form : (name : ℕ) (ws : List (List ℕ)) → Held name (argument_values words_at (form name) ws unsaid)
-held-form name ws = held-arguments name (form name) ws 0 unsaid (omega (arith, four-words name)) (λ i. ap (λ (x : ℕ). get_or (form name) x 0) (let z : i ≡ 0 + i = omega arith in z)) (held-unsaid name)
+pub held-form : (name : ℕ) (ws : List (List ℕ)) → HeldWords name (argument_values 0 (form name) ws unread_words)
+held-form name ws = held-arguments name (form name) ws 0 unread_words (omega (arith, four-words name)) (λ i. ap (λ (x : ℕ). get_or (form name) x Reading) (let z : i ≡ 0 + i = omega arith in z)) (held-unread name)
 
 -- ---- what the limits give
 
-pub or-else-most : (l : List ℕ) (key other b : ℕ) → get_or l (keys_at + key) 0 ≤ b → other ≤ b → or_else l key other ≤ b
+pub or-else-most : (l : List (Option ℕ)) (key other b : ℕ) → or_else l key 0 ≤ b → other ≤ b → or_else l key other ≤ b
 unfolding or_else
-or-else-most l key other b h o = pick-either _ _ _ (λ x. x ≤ b) (λ t. h) (λ f. o)
+or-else-most l key other b h o = go (get_or l key None) h
+  where
+    go : (x : Option ℕ) → unwrap_or x 0 ≤ b → unwrap_or x other ≤ b
+    go None h = o
+    go (Some v) h = h
 
 -- a number that stands in neither part of a list
 apart : (v : ℕ) (l : List ℕ) (n : ℕ) → v ≢ 0 → Each (λ x. x ≢ v) l → get_or l n 0 ≢ v
@@ -145,44 +154,44 @@ is-take name e =
     (λ z. omega arith, (λ z. omega arith, (λ z. omega arith, (λ z. omega arith, (λ z. omega arith, (λ z. omega arith, (λ z. omega arith, tt)))))))
     e
 
-module _ (name : ℕ) (l : List ℕ) (h : Held name l) where
+module _ (name : ℕ) (l : Values) (g : HeldWords name l.words) (h : HeldKeys l.keys) where
   pub small : Small name l
   small = (
-    λ e. let z = h.words 2 (omega arith) in omega (arith, rw e at z),
-    λ e. let z = h.words 2 (omega arith) in omega (arith, rw e at z),
-    omega (arith, or-else-most l bits_key 24 65535 (h.options bits_key (omega arith)) (omega arith)),
-    omega (arith, or-else-most l samples_key 238 65535 (h.options samples_key (omega arith)) (omega arith)),
+    λ e. let z = g.words 2 (omega arith) in omega (arith, rw e at z),
+    λ e. let z = g.words 2 (omega arith) in omega (arith, rw e at z),
+    omega (arith, or-else-most l.keys bits_key 24 65535 (h.options bits_key (omega arith)) (omega arith)),
+    omega (arith, or-else-most l.keys samples_key 238 65535 (h.options samples_key (omega arith)) (omega arith)),
   )
 
   count_most : count_of name l ≤ most_octets
   unfolding count_of
   count_most =
       pick-either _ _ _ (λ x. x ≤ most_octets)
-      (λ t. or-else-most l length_key 1444 most_octets (h.options length_key (omega arith)) (omega arith))
+      (λ t. or-else-most l.keys length_key 1444 most_octets (h.options length_key (omega arith)) (omega arith))
       (λ f. pick-either _ _ _ (λ x. x ≤ most_octets) (λ t. omega arith)
-      (λ g. pick-either _ _ _ (λ x. x ≤ most_octets)
-      (λ t. let z = h.words 3 (omega arith) in rw (eqb-true name datagram_name t) at z)
+      (λ u. pick-either _ _ _ (λ x. x ≤ most_octets)
+      (λ t. let z = g.words 3 (omega arith) in rw (eqb-true name datagram_name t) at z)
       (λ k. omega arith)))
 
   places-most : places_of name l ≤ 8192
   unfolding places_of
   places-most =
       pick-either _ _ _ (λ x. x ≤ 8192)
-      (λ t. let z = h.words 1 (omega arith) in omega (arith, rw (eqb-true name take_name t) at z))
-      (λ f. or-else-most l buffer_key (get_or buffers name 0) 8192 (h.options buffer_key (omega arith)) (omega (arith, get_or-under 8193 buffers (omega arith) tt name)))
+      (λ t. let z = g.words 1 (omega arith) in omega (arith, rw (eqb-true name take_name t) at z))
+      (λ f. or-else-most l.keys buffer_key (get_or buffers name 0) 8192 (h.options buffer_key (omega arith)) (omega (arith, get_or-under 8193 buffers (omega arith) tt name)))
 
   taken-most : get_or kinds name 0 ≡ 3 → places_of name l ≤ 1024
   unfolding places_of
   taken-most e =
       let t = is-take name e in
-      let z = h.words 1 (omega arith) in
+      let z = g.words 1 (omega arith) in
       pick-either _ _ _ (λ x. x ≤ 1024) (λ _. omega (arith, rw t at z)) (λ f. absurd (eqb-false name take_name f t))
 
   address-most : (ip : ℕ) → ip < 4294967296 → address_of name ip l ≤ 4294967296
   unfolding address_of
   address-most ip b =
       pick-either _ _ _ (λ x. x ≤ 4294967296)
-      (λ t. let z = h.words 2 (omega arith) in omega (arith, rw (eqb-true name datagram_name t) at z))
+      (λ t. let z = g.words 2 (omega arith) in omega (arith, rw (eqb-true name datagram_name t) at z))
       (λ f. pick-either _ _ _ (λ x. x ≤ 4294967296) (λ t. omega arith) (λ g. pick-either _ _ _ (λ x. x ≤ 4294967296) (λ t. omega arith) (λ k. omega arith)))
 
   port-most : (port : ℕ) → port_of name port l < 65536

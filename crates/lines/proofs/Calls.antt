@@ -11,62 +11,61 @@ use Rattle.text.specs.Split.{words, part, WordAt}
 use Rattle.text.proofs.Splits.{no_word, one_word}
 use Rattle.lines.specs.declared.Expected.{Expected}
 use Rattle.lines.specs.declared.Read.{Read}
-use Rattle.lines.specs.declared.option.Took.{Took}
-use Rattle.lines.specs.declared.option.Took.TheVariants.{Taken, Unknown, Unreadable}
-use Rattle.lines.specs.Key.{buffer_key, key_count, unsaid}
+use Rattle.lines.specs.declared.call.Values.{Values}
+use Rattle.std.specs.Prelude.{Option, Some, None, Ok, Err}
+use Rattle.lines.specs.declared.argument.Kind.{Kind}
+use Rattle.lines.specs.declared.option.Untaken.{Untaken}
+use Rattle.lines.specs.Key.{buffer_key, key_count, unread_words, unsaid}
 use Rattle.lines.specs.Name.{names, state_name, radio_name, open_name, name_count, ends, text_of}
-use Rattle.lines.specs.Argument.{all_read, form, argument_octets, arguments_seen, Arguments}
-use Rattle.lines.specs.Option.{options_took, options_values, options_numbers, options_seen, Ran}
-use Rattle.lines.specs.Call.{expected_word, optioned, arguments_of, options_of, asked, read_named, read_words, words_of, longest, read_line, values_of, call_of, octets_of, on_call, named_seen, Named, name_of, after, of_named, of_line, octets_left, numbers_left, Lent}
+use Rattle.lines.specs.Argument.{form, unread, if_read, argument_octets, arguments_seen, Arguments}
+use Rattle.lines.specs.Option.{Took, Taken, expected_of, options_took, options_values, options_numbers, options_seen, Ran}
+use Rattle.lines.specs.Call.{Told, expected_word, worded, optioned, arguments_of, options_of, asked, read_named, read_words, words_of, longest, read_line, values_of, call_of, octets_of, on_call, named_seen, Named, name_of, after, of_named, of_line, octets_left, numbers_left, Lent}
 use Rattle.lines.proofs.Forms.{get_or-under}
-use Rattle.lines.proofs.Bounds.{Held, held-options, held-form, fit}
+use Rattle.lines.proofs.Bounds.{HeldWords, HeldKeys, held-unsaid, held-options, held-form, fit}
 
-kept : (x : Read) → (x ≡ Read.Call → ⊥) → (new other : List ℕ) → other ≡ on_call x new other
-kept Read.Call f new other = absurd (f refl)
-kept Read.Nothing f new other = refl
-kept Read.Open f new other = refl
-kept Read.State f new other = refl
-kept Read.Radio f new other = refl
-kept (Read.Unread x) f new other = refl
+kept : (x : Told) → (x ≡ Ok Read.Call → ⊥) → (new other : List ℕ) → other ≡ on_call x new other
+kept (Ok Read.Call) f new other = absurd (f refl)
+kept (Ok Read.Nothing) f new other = refl
+kept (Ok Read.Open) f new other = refl
+kept (Ok Read.State) f new other = refl
+kept (Ok Read.Radio) f new other = refl
+kept (Err x) f new other = refl
 
-module _ (name ip port : ℕ) (s b d n : List ℕ) (ws : List (List ℕ)) (r at : ℕ) (m e : List ℕ) (g : Arguments (form name) s unsaid d ws r at m e) where
-  pub not-read : (r ≡ all_read → ⊥) → Named name ip port b d n ws (Read.Unread (expected_word r)) b e n
-  unfolding read_named named_seen
-  not-read h =
+module _ (name ip port : ℕ) (s b d n : List ℕ) (ws : List (List ℕ)) (r : Option Kind) (at : ℕ) (m e : List ℕ) (g : Arguments (form name) s unread_words d ws r at m e) where
+  pub not-read : (t : Kind) → r ≡ Some t → Named name ip port b d n ws (Err (expected_word t)) b e n
+  unfolding read_named worded named_seen if_read
+  not-read t h =
+      let u : unread (form name) ws ≡ Some t = sym g.told ∙ h in
       record {
-        told =
-            ap (λ (k : ℕ). Read.Unread (expected_word k)) g.told
-            ∙ sym (pick-f _ _ _ (ne_eqb _ _ (λ q. h (g.told ∙ q))));
+        told = rw u;
         call = refl;
         octets = g.seen;
-        numbers = sym (pick-f _ _ _ (ne_eqb _ _ (λ q. h (g.told ∙ q))));
+        numbers = rw u;
         fit = λ q. let z : ◌≡◌ {A = ℕ} 0 1 = cc in absurd (omega arith);
       }
 
-  module _ (h : r ≡ all_read) (to : ℕ) (k : to ≡ get_or ends name 0) (q : Took) (m2 n2 : List ℕ) (o : Ran buffer_key to m n (words (drop at s)) q m2 n2) where
+  module _ (h : r ≡ None) (to : ℕ) (k : to ≡ get_or ends name 0) (q : Took) (m2 : List (Option ℕ)) (n2 : List ℕ) (o : Ran buffer_key to unsaid n (words (drop at s)) q m2 n2) where
     values-here : m ≡ arguments_of name ws
     values-here = g.values h
 
     told_here : optioned q Expected.End (asked name) ≡ read_named name ws
-    unfolding read_named
+    unfolding read_named worded
     told_here =
         ap (λ (x : Took). optioned x Expected.End (asked name))
         (o.told
-        ∙ ap (λ (x : ℕ). options_took buffer_key x m (words (drop at s))) k
-        ∙ ap (λ (x : List ℕ). options_took buffer_key (get_or ends name 0) x (words (drop at s))) values-here
-        ∙ ap (options_took buffer_key (get_or ends name 0) (arguments_of name ws)) (g.follows h))
-        ∙ sym (pick-t _ _ _ (eq-eqb _ _ (sym g.told ∙ h)))
+        ∙ ap (λ (x : ℕ). options_took buffer_key x unsaid (words (drop at s))) k
+        ∙ ap (options_took buffer_key (get_or ends name 0) unsaid) (g.follows h))
+        ∙ sym (ap (λ (x : Option Kind). worded x (optioned (options_took buffer_key (get_or ends name 0) unsaid (options_of name ws)) Expected.End (asked name))) (sym g.told ∙ h))
 
     seen_here : n2 ≡ named_seen name ws n
-    unfolding named_seen
+    unfolding named_seen if_read
     seen_here =
         o.seen
-        ∙ ap (λ (x : ℕ). options_seen buffer_key x m n (words (drop at s))) k
-        ∙ ap (λ (x : List ℕ). options_seen buffer_key (get_or ends name 0) x n (words (drop at s))) values-here
-        ∙ ap (options_seen buffer_key (get_or ends name 0) (arguments_of name ws) n) (g.follows h)
-        ∙ sym (pick-t _ _ _ (eq-eqb _ _ (sym g.told ∙ h)))
+        ∙ ap (λ (x : ℕ). options_seen buffer_key x unsaid n (words (drop at s))) k
+        ∙ ap (options_seen buffer_key (get_or ends name 0) unsaid n) (g.follows h)
+        ∙ sym (ap (λ (x : Option Kind). if_read x (options_seen buffer_key (get_or ends name 0) unsaid n (options_of name ws)) n) (sym g.told ∙ h))
 
-    stopped : (x : Read) → (x ≡ Read.Call → ⊥) → x ≡ read_named name ws → Named name ip port b d n ws x b e n2
+    stopped : (x : Told) → (x ≡ Ok Read.Call → ⊥) → x ≡ read_named name ws → Named name ip port b d n ws x b e n2
     stopped x f t =
         record {
           told = t;
@@ -76,55 +75,56 @@ module _ (name ip port : ℕ) (s b d n : List ℕ) (ws : List (List ℕ)) (r at 
           fit = λ q. absurd (f q);
         }
 
-    pub unknown-word : q ≡ Unknown → Named name ip port b d n ws (Read.Unread Expected.End) b e n2
+    pub untaken : (x : Untaken) → q ≡ Err x → Named name ip port b d n ws (Err (expected_of x Expected.End)) b e n2
     unfolding optioned
-    unknown-word t = stopped _ (λ q. let z : ◌≡◌ {A = ℕ} 0 1 = cc in omega arith) (rw t at told_here)
-
-    pub unread-value : (j : ℕ) → q ≡ Unreadable j → Named name ip port b d n ws (Read.Unread (Expected.ValueOf j)) b e n2
-    unfolding optioned
-    unread-value j t = stopped _ (λ q. let z : ◌≡◌ {A = ℕ} 0 1 = cc in omega arith) (rw t at told_here)
+    untaken x t = stopped _ (λ q. let z : ◌≡◌ {A = ℕ} 0 1 = cc in omega arith) (rw t at told_here)
 
     module _ (t : q ≡ Taken) where
       named_here : asked name ≡ read_named name ws
       unfolding optioned
       named_here = rw t at told_here
 
-      pub state : name ≡ state_name → Named name ip port b d n ws Read.State b e n2
+      pub state : name ≡ state_name → Named name ip port b d n ws (Ok Read.State) b e n2
       unfolding asked
       state f = stopped _ (λ q. let z : ◌≡◌ {A = ℕ} 0 1 = cc in omega arith) (sym (pick-t _ _ _ (eq-eqb name state_name f)) ∙ named_here)
 
-      pub radio : (name ≡ state_name → ⊥) → name ≡ radio_name → Named name ip port b d n ws Read.Radio b e n2
+      pub radio : (name ≡ state_name → ⊥) → name ≡ radio_name → Named name ip port b d n ws (Ok Read.Radio) b e n2
       unfolding asked
       radio f k = stopped _ (λ q. let z : ◌≡◌ {A = ℕ} 0 1 = cc in omega arith) (sym (pick-f _ _ _ (ne_eqb name state_name f) ∙ pick-t _ _ _ (eq-eqb name radio_name k)) ∙ named_here)
 
-      values-then : m2 ≡ values_of name ws
+      abbrev said_here : Values
+      said_here = record { words = m; keys = m2 }
+
+      values-then : said_here ≡ values_of name ws
       unfolding values_of
-      values-then = o.values t ∙ ap (λ (x : List ℕ). options_values x (words (drop at s))) values-here ∙ ap (options_values (arguments_of name ws)) (g.follows h)
+      values-then =
+          ap (λ (x : List ℕ). record { words = x; keys = m2 }) values-here
+          ∙ ap (λ (x : List (Option ℕ)). record { words = arguments_of name ws; keys = x }) (o.values t ∙ ap (options_values unsaid) (g.follows h))
 
-      pub held : Held name m2
-      held =
+      pub held-words : HeldWords name m
+      held-words = rw values-here (held-form name ws)
+
+      pub held-keys : HeldKeys m2
+      held-keys =
           let b : to ≤ key_count = omega (arith, get_or-under (key_count + 1) ends (omega arith) tt name) in
-          let a : options_took buffer_key to (arguments_of name ws) (words (drop at s)) ≡ Taken =
-          ap (λ (x : List ℕ). options_took buffer_key to x (words (drop at s))) (sym values-here) ∙ sym o.told ∙ t in
-          let v : options_values (arguments_of name ws) (words (drop at s)) ≡ m2 = sym (o.values t ∙ ap (λ (x : List ℕ). options_values x (words (drop at s))) values-here) in
-          rw v at (held-options name buffer_key to (words (drop at s)) (arguments_of name ws) b a (held-form name ws))
+          rw (o.values t) (held-options buffer_key to (words (drop at s)) unsaid b (sym o.told ∙ t) held-unsaid)
 
-      pub done : (name ≡ state_name → ⊥) → (name ≡ radio_name → ⊥) → ip < 4294967296 → (c y : List ℕ) → c ≡ call_of name ip port m2 → y ≡ octets_of name m2 e → Named name ip port b d n ws Read.Call c y n2
+      pub done : (name ≡ state_name → ⊥) → (name ≡ radio_name → ⊥) → ip < 4294967296 → (c y : List ℕ) → c ≡ call_of name ip port said_here → y ≡ octets_of name said_here e → Named name ip port b d n ws (Ok Read.Call) c y n2
       unfolding asked
       done f v l c y p w =
           record {
             told = sym (pick-f _ _ _ (ne_eqb name state_name f) ∙ pick-f _ _ _ (ne_eqb name radio_name v)) ∙ named_here;
             call = p ∙ ap (call_of name ip port) values-then;
-            octets = w ∙ ap (λ (x : List ℕ). octets_of name x e) values-then ∙ ap (octets_of name (values_of name ws)) (g.octets h);
+            octets = w ∙ ap (λ (x : Values). octets_of name x e) values-then ∙ ap (octets_of name (values_of name ws)) (g.octets h);
             numbers = o.numbers t ∙ ap (options_numbers n) (g.follows h);
-            fit = λ q. rw p (fit name m2 held ip port l);
+            fit = λ q. rw p (fit name said_here held-words held-keys ip port l);
           }
 
 -- ---- a line
 
 module _ (line : List ℕ) (ip port : ℕ) (b d n : List ℕ) where
   -- a line without the words of a call's name leaves every buffer as it was
-  no_call : (x : Read) → (x ≡ Read.Call → ⊥) → x ≡ read_line line → ((f : ℕ → List (List ℕ) → List ℕ) (z : List ℕ) → z ≡ of_line f z line) → Lent line ip port b d n x b d n
+  no_call : (x : Told) → (x ≡ Ok Read.Call → ⊥) → x ≡ read_line line → ((f : ℕ → List (List ℕ) → List ℕ) (z : List ℕ) → z ≡ of_line f z line) → Lent line ip port b d n x b d n
   no_call x f t u =
       record {
         told = t;
@@ -134,7 +134,7 @@ module _ (line : List ℕ) (ip port : ℕ) (b d n : List ℕ) where
         fit = λ q. absurd (f q);
       }
 
-  pub too_long : longest < length line → Lent line ip port b d n (Read.Unread Expected.ShorterLine) b d n
+  pub too_long : longest < length line → Lent line ip port b d n (Err Expected.ShorterLine) b d n
   unfolding read_line of_line
   too_long h =
       no_call _ (λ q. let z : ◌≡◌ {A = ℕ} 0 1 = cc in omega arith) (sym (pick-t _ _ _ (lt-ltb _ _ h)))
@@ -149,7 +149,7 @@ module _ (line : List ℕ) (ip port : ℕ) (b d n : List ℕ) where
     unfolding of_line
     of_words f y = ap (λ (x : List ℕ). of_named f y (words x)) q ∙ sym (pick-f _ _ _ (le-ltb _ _ h))
 
-    pub nothing : a ≡ z → Lent line ip port b d n Read.Nothing b d n
+    pub nothing : a ≡ z → Lent line ip port b d n (Ok Read.Nothing) b d n
     unfolding read_words of_named
     nothing f =
         let o = no_word s 0 a z w f in
@@ -160,13 +160,13 @@ module _ (line : List ℕ) (ip port : ℕ) (b d n : List ℕ) where
       first : words s ≡ part s a z ∷ words (drop z s)
       first = one_word s 0 a z w f
 
-      pub opens : name ≡ open_name → Lent line ip port b d n Read.Open b d n
+      pub opens : name ≡ open_name → Lent line ip port b d n (Ok Read.Open) b d n
       unfolding read_words of_named
       opens v =
           no_call _ (λ q. let z : ◌≡◌ {A = ℕ} 0 1 = cc in omega arith) (sym (pick-t _ _ _ (eq-eqb _ _ (sym k ∙ v))) ∙ ap read_words (sym first) ∙ by-words)
           (λ f y. sym (pick-t _ _ _ (eq-eqb _ _ (sym k ∙ v))) ∙ ap (of_named f y) (sym first) ∙ of_words f y)
 
-      pub not-a-call : name_count ≤ name → Lent line ip port b d n (Read.Unread Expected.Call) b d n
+      pub not-a-call : name_count ≤ name → Lent line ip port b d n (Err Expected.Call) b d n
       unfolding read_words of_named
       not-a-call v =
           let o = ne_eqb (place (part s a z) names) open_name (λ t. omega arith) in
@@ -184,7 +184,7 @@ module _ (line : List ℕ) (ip port : ℕ) (b d n : List ℕ) where
             ∙ ap (of_named f y) (sym first)
             ∙ of_words f y
 
-        pub called : (r : Read) (c e m : List ℕ) → Named name ip port b d n (words (drop z s)) r c e m → Lent line ip port b d n r c e m
+        pub called : (r : Told) (c e m : List ℕ) → Named name ip port b d n (words (drop z s)) r c e m → Lent line ip port b d n r c e m
         unfolding read_words
         called r c e m v =
             let ws : words_of line ≡ part s a z ∷ words (drop z s) = ap words (sym q) ∙ first in

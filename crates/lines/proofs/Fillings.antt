@@ -1,56 +1,51 @@
 -- The words of a form, one by one: what each turn of the loop over them leaves. Assumes nothing.
 use mathlib.Core.Path.{◌≡◌, refl, sym, ap, ◌∙◌}
 use mathlib.Core.List.{List, [], ◌∷◌}
-use mathlib.Core.Bool.{Bool, true, false}
 use Prim.Native.Nat.{ℕ, suc, ◌+◌, ◌-◌, ◌≤◌, ◌<◌}
 use native.Mathlib.Nat.{sub-zero}
 use native.Mathlib.Numerals.{add-one}
 use native.Mathlib.Omega.{arith}
-use borrow.Author.Tests.{eqb-true}
-use lib.Dec.{eqb}
 use lib.ListN.{length, drop, get_or, set, length-set, drop_of_length-le}
 use lib.Seq.{drop-cons}
-use Rattle.base.specs.Pick.{pick}
 use Rattle.octets.specs.Written.{written}
 use Rattle.text.specs.Split.{words, part, WordAt}
-use Rattle.text.specs.declared.Spelt.TheVariants.{Number, Nothing}
+use Rattle.std.specs.Prelude.{Some, None}
+use Rattle.lines.specs.declared.argument.Kind.{Kind}
+use Rattle.lines.specs.declared.argument.Kind.TheVariants.{Reading, Number, Octet, Places, Sender, Octets}
 use Rattle.text.proofs.Splits.{no_word, one_word}
-use Rattle.lines.specs.Key.{words_at}
-use Rattle.lines.specs.Argument.{octets_word, most, all_read, argument_as, argument, octets_as, octets_seen_as, unread, argument_values, argument_octets, arguments_seen, arguments_rest, Arguments}
-use Rattle.values.specs.Octets.{octets_of, octets_seen, octet_count}
+use Rattle.lines.specs.Key.{most_octets}
+use Rattle.lines.specs.Argument.{argument_as, argument, of_octets, octets_as, octets_seen_as, unread, argument_values, argument_octets, arguments_seen, arguments_rest, Arguments}
+use Rattle.values.specs.Octets.{octet_count}
 use Rattle.values.proofs.Values.{given-no, given_yes, up-to-number}
 use Rattle.values.proofs.Hexadecimals.{seen-octets}
 
 -- ---- of a word that can be read, what was seen is the whole of it
 
-by-octets : (t : ℕ) (w : List ℕ) → t ≡ octets_word → argument_as t w ≡ octet_count w
-unfolding argument_as pick
-by-octets t w e = rw e
-
-seen-whole : (t : ℕ) (w d : List ℕ) (v : ℕ) → argument t w ≡ Number v → octets_seen_as t w d ≡ octets_as t w d
-unfolding argument octets_seen_as octets_as pick
-seen-whole t w d v e = go (eqb t octets_word) refl
-  where
-    go : (b : Bool) → eqb t octets_word ≡ b → pick b (written d 0 (octets_seen w)) d ≡ pick b (written d 0 (octets_of w)) d
-    go true q = ap (written d 0) (seen-octets w v (sym (by-octets t w (eqb-true t octets_word q)) ∙ up-to-number (get_or most t 0) (argument_as t w) v e))
-    go false q = refl
+seen-whole : (t : Kind) (w d : List ℕ) (v : ℕ) → argument t w ≡ Some v → octets_seen_as t w d ≡ octets_as t w d
+unfolding argument argument_as octets_seen_as octets_as of_octets
+seen-whole Reading w d v e = refl
+seen-whole Number w d v e = refl
+seen-whole Octet w d v e = refl
+seen-whole Places w d v e = refl
+seen-whole Sender w d v e = refl
+seen-whole Octets w d v e = ap (written d 0) (seen-octets w v (up-to-number most_octets (octet_count w) v e))
 
 -- ---- word by word
 
 -- the first j words of the form are read, and have left m and n
-pub record Filling (ts s l d : List ℕ) (start at j : ℕ) (m n : List ℕ) : Type 0 where
+pub record Filling (ts : List Kind) (s l d : List ℕ) (start at j : ℕ) (m n : List ℕ) : Type 0 where
   pub within : at ≤ length s
   pub most : j ≤ length ts
   pub as_long : length m ≡ length l
   pub as_many : length n ≡ length d
   pub told : unread (drop j ts) (words (drop at s)) ≡ unread ts (words (drop start s))
-  pub values : argument_values (words_at + j) (drop j ts) (words (drop at s)) m ≡ argument_values words_at ts (words (drop start s)) l
+  pub values : argument_values j (drop j ts) (words (drop at s)) m ≡ argument_values 0 ts (words (drop start s)) l
   pub octets : argument_octets (drop j ts) (words (drop at s)) n ≡ argument_octets ts (words (drop start s)) d
   pub seen : arguments_seen (drop j ts) (words (drop at s)) n ≡ arguments_seen ts (words (drop start s)) d
   pub follows : drop (length ts - j) (words (drop at s)) ≡ drop (length ts) (words (drop start s))
   pub rest : arguments_rest (drop j ts) (words (drop at s)) ≡ arguments_rest ts (words (drop start s))
 
-pub filling : (ts s l d : List ℕ) (start : ℕ) → start ≤ length s → Filling ts s l d start start 0 l d
+pub filling : (ts : List Kind) (s l d : List ℕ) (start : ℕ) → start ≤ length s → Filling ts s l d start start 0 l d
 filling ts s l d start h =
     record {
       within = h;
@@ -65,100 +60,100 @@ filling ts s l d start h =
       rest = refl;
     }
 
-module _ (ts s l d : List ℕ) (start at j : ℕ) (m n : List ℕ) (i : Filling ts s l d start at j m n) where
-  pub filled : length ts ≤ j → Arguments ts s l d (words (drop start s)) all_read at m n
+module _ (ts : List Kind) (s l d : List ℕ) (start at j : ℕ) (m n : List ℕ) (i : Filling ts s l d start at j m n) where
+  pub filled : length ts ≤ j → Arguments ts s l d (words (drop start s)) None at m n
   unfolding unread argument_values argument_octets arguments_seen arguments_rest
   filled h =
       let z = drop_of_length-le ts {i = j} h in
       let k : length ts - j ≡ 0 = omega arith in
       record {
-        told = sym (ap (λ (x : List ℕ). unread x (words (drop at s))) z) ∙ i.told;
+        told = sym (ap (λ (x : List Kind). unread x (words (drop at s))) z) ∙ i.told;
         within = i.within;
-        values = λ t. sym (ap (λ (x : List ℕ). argument_values (words_at + j) x (words (drop at s)) m) z) ∙ i.values;
-        octets = λ t. sym (ap (λ (x : List ℕ). argument_octets x (words (drop at s)) n) z) ∙ i.octets;
-        seen = sym (ap (λ (x : List ℕ). arguments_seen x (words (drop at s)) n) z) ∙ i.seen;
+        values = λ t. sym (ap (λ (x : List Kind). argument_values j x (words (drop at s)) m) z) ∙ i.values;
+        octets = λ t. sym (ap (λ (x : List Kind). argument_octets x (words (drop at s)) n) z) ∙ i.octets;
+        seen = sym (ap (λ (x : List Kind). arguments_seen x (words (drop at s)) n) z) ∙ i.seen;
         follows = λ t. sym (ap (λ (x : ℕ). drop x (words (drop at s))) k) ∙ i.follows;
-        rest = sym (ap (λ (x : List ℕ). arguments_rest x (words (drop at s))) z) ∙ i.rest;
+        rest = sym (ap (λ (x : List Kind). arguments_rest x (words (drop at s))) z) ∙ i.rest;
       }
 
-  module _ (h : j < length ts) (t : ℕ) (k : t ≡ get_or ts j 0) (b : t < all_read) (a e : ℕ) (w : WordAt s at a e) where
+  module _ (h : j < length ts) (t : Kind) (k : t ≡ get_or ts j Reading) (a e : ℕ) (w : WordAt s at a e) where
     next : drop j ts ≡ t ∷ drop (suc j) ts
-    next = drop-cons ts j 0 h ∙ ap (λ (x : ℕ). x ∷ drop (suc j) ts) (sym k)
+    next = drop-cons ts j Reading h ∙ ap (λ (x : Kind). x ∷ drop (suc j) ts) (sym k)
 
-    unread-here : (x y : List ℕ) → t ≡ unread ts (words (drop start s)) → words (drop at s) ≡ arguments_rest ts (words (drop start s))
-        → y ≡ arguments_seen ts (words (drop start s)) d → Arguments ts s l d (words (drop start s)) t at x y
+    unread-here : (x y : List ℕ) → Some t ≡ unread ts (words (drop start s)) → words (drop at s) ≡ arguments_rest ts (words (drop start s))
+        → y ≡ arguments_seen ts (words (drop start s)) d → Arguments ts s l d (words (drop start s)) (Some t) at x y
     unread-here x y q v u =
         record {
           told = q;
           within = i.within;
-          values = λ z. absurd (omega arith);
-          octets = λ z. absurd (omega arith);
+          values = λ z. let z : ◌≡◌ {A = ℕ} 0 1 = cc in absurd (omega arith);
+          octets = λ z. let z : ◌≡◌ {A = ℕ} 0 1 = cc in absurd (omega arith);
           seen = u;
-          follows = λ z. absurd (omega arith);
+          follows = λ z. let z : ◌≡◌ {A = ℕ} 0 1 = cc in absurd (omega arith);
           rest = v;
         }
 
-    pub not_there : a ≡ e → Arguments ts s l d (words (drop start s)) t at m n
+    pub not_there : a ≡ e → Arguments ts s l d (words (drop start s)) (Some t) at m n
     unfolding unread arguments_seen arguments_rest
     not_there z =
         let o = no_word s at a e w z in
-        unread-here m n (sym (ap (λ (x : List ℕ). unread x []) next) ∙ ap (unread (drop j ts)) (sym o) ∙ i.told)
-        (o ∙ sym (ap (λ (x : List ℕ). arguments_rest x []) next) ∙ ap (arguments_rest (drop j ts)) (sym o) ∙ i.rest)
-        (sym (ap (λ (x : List ℕ). arguments_seen x [] n) next) ∙ ap (λ (x : List (List ℕ)). arguments_seen (drop j ts) x n) (sym o) ∙ i.seen)
+        unread-here m n (sym (ap (λ (x : List Kind). unread x []) next) ∙ ap (unread (drop j ts)) (sym o) ∙ i.told)
+        (o ∙ sym (ap (λ (x : List Kind). arguments_rest x []) next) ∙ ap (arguments_rest (drop j ts)) (sym o) ∙ i.rest)
+        (sym (ap (λ (x : List Kind). arguments_seen x [] n) next) ∙ ap (λ (x : List (List ℕ)). arguments_seen (drop j ts) x n) (sym o) ∙ i.seen)
 
     module _ (z : a ≡ e → ⊥) where
       told-next : unread (t ∷ drop (suc j) ts) (part s a e ∷ words (drop e s)) ≡ unread ts (words (drop start s))
       told-next =
-          ap (λ (x : List ℕ). unread x (part s a e ∷ words (drop e s))) (sym next)
+          ap (λ (x : List Kind). unread x (part s a e ∷ words (drop e s))) (sym next)
           ∙ ap (unread (drop j ts)) (sym (one_word s at a e w z))
           ∙ i.told
 
       rest-next : arguments_rest (t ∷ drop (suc j) ts) (part s a e ∷ words (drop e s)) ≡ arguments_rest ts (words (drop start s))
       rest-next =
-          ap (λ (x : List ℕ). arguments_rest x (part s a e ∷ words (drop e s))) (sym next)
+          ap (λ (x : List Kind). arguments_rest x (part s a e ∷ words (drop e s))) (sym next)
           ∙ ap (arguments_rest (drop j ts)) (sym (one_word s at a e w z))
           ∙ i.rest
 
       seen_next : arguments_seen (t ∷ drop (suc j) ts) (part s a e ∷ words (drop e s)) n ≡ arguments_seen ts (words (drop start s)) d
       seen_next =
-          ap (λ (x : List ℕ). arguments_seen x (part s a e ∷ words (drop e s)) n) (sym next)
+          ap (λ (x : List Kind). arguments_seen x (part s a e ∷ words (drop e s)) n) (sym next)
           ∙ ap (λ (x : List (List ℕ)). arguments_seen (drop j ts) x n) (sym (one_word s at a e w z))
           ∙ i.seen
 
-      pub not-read : (p : List ℕ) → argument t (part s a e) ≡ Nothing → p ≡ octets_seen_as t (part s a e) n → Arguments ts s l d (words (drop start s)) t at m p
+      pub not-read : (p : List ℕ) → argument t (part s a e) ≡ None → p ≡ octets_seen_as t (part s a e) n → Arguments ts s l d (words (drop start s)) (Some t) at m p
       unfolding unread arguments_seen arguments_rest
       not-read p r q =
           unread-here m p (sym (given-no _ _ _ r) ∙ told-next) (one_word s at a e w z ∙ sym (given-no _ _ _ r) ∙ rest-next)
           (q ∙ sym (given-no _ _ _ r) ∙ seen_next)
 
-      pub read-on : (v : ℕ) (p : List ℕ) → argument t (part s a e) ≡ Number v → p ≡ octets_seen_as t (part s a e) n → length p ≡ length n → Filling ts s l d start e (j + 1) (set m (words_at + j) v) p
+      pub read-on : (v : ℕ) (p : List ℕ) → argument t (part s a e) ≡ Some v → p ≡ octets_seen_as t (part s a e) n → length p ≡ length n → Filling ts s l d start e (j + 1) (set m j v) p
       unfolding unread argument_values argument_octets arguments_seen arguments_rest
       read-on v p r q y =
           let o = one_word s at a e w z in
           let up : drop (j + 1) ts ≡ drop (suc j) ts = ap (λ (f : ℕ). drop f ts) (add-one j) in
-          let f : words_at + (j + 1) ≡ words_at + j + 1 = omega arith in
+          let f : j + 1 ≡ j + 1 = refl in
           let g : length ts - j ≡ suc (length ts - (j + 1)) = omega arith in
           record {
             within = w.within;
             most = omega arith;
-            as_long = length-set m (words_at + j) v ∙ i.as_long;
+            as_long = length-set m j v ∙ i.as_long;
             as_many = y ∙ i.as_many;
-            told = ap (λ (f : List ℕ). unread f (words (drop e s))) up ∙ sym (given_yes _ _ _ v r) ∙ told-next;
+            told = ap (λ (f : List Kind). unread f (words (drop e s))) up ∙ sym (given_yes _ _ _ v r) ∙ told-next;
             values =
-                ap (λ (c : List ℕ). argument_values (words_at + (j + 1)) c (words (drop e s)) (set m (words_at + j) v)) up
-                ∙ ap (λ (c : ℕ). argument_values c (drop (suc j) ts) (words (drop e s)) (set m (words_at + j) v)) f
-                ∙ ap (λ (c : ℕ). argument_values (words_at + j + 1) (drop (suc j) ts) (words (drop e s)) (set m (words_at + j) c)) (sym (given_yes _ (λ (c : ℕ). c) 0 v r))
-                ∙ ap (λ (c : List ℕ). argument_values (words_at + j) c (part s a e ∷ words (drop e s)) m) (sym next)
-                ∙ ap (λ (c : List (List ℕ)). argument_values (words_at + j) (drop j ts) c m) (sym o)
+                ap (λ (c : List Kind). argument_values (j + 1) c (words (drop e s)) (set m j v)) up
+                ∙ ap (λ (c : ℕ). argument_values c (drop (suc j) ts) (words (drop e s)) (set m j v)) f
+                ∙ ap (λ (c : ℕ). argument_values (j + 1) (drop (suc j) ts) (words (drop e s)) (set m j c)) (sym (given_yes _ (λ (c : ℕ). c) 0 v r))
+                ∙ ap (λ (c : List Kind). argument_values j c (part s a e ∷ words (drop e s)) m) (sym next)
+                ∙ ap (λ (c : List (List ℕ)). argument_values j (drop j ts) c m) (sym o)
                 ∙ i.values;
             octets =
-                ap (λ (c : List ℕ). argument_octets c (words (drop e s)) p) up
+                ap (λ (c : List Kind). argument_octets c (words (drop e s)) p) up
                 ∙ ap (argument_octets (drop (suc j) ts) (words (drop e s))) (q ∙ seen-whole t (part s a e) n v r)
-                ∙ ap (λ (c : List ℕ). argument_octets c (part s a e ∷ words (drop e s)) n) (sym next)
+                ∙ ap (λ (c : List Kind). argument_octets c (part s a e ∷ words (drop e s)) n) (sym next)
                 ∙ ap (λ (c : List (List ℕ)). argument_octets (drop j ts) c n) (sym o)
                 ∙ i.octets;
             seen =
-                ap (λ (c : List ℕ). arguments_seen c (words (drop e s)) p) up
+                ap (λ (c : List Kind). arguments_seen c (words (drop e s)) p) up
                 ∙ ap (arguments_seen (drop (suc j) ts) (words (drop e s))) q
                 ∙ sym (given_yes _ _ _ v r)
                 ∙ seen_next;
@@ -166,5 +161,5 @@ module _ (ts s l d : List ℕ) (start at j : ℕ) (m n : List ℕ) (i : Filling 
                 ap (λ (c : ℕ). drop c (part s a e ∷ words (drop e s))) (sym g)
                 ∙ ap (drop (length ts - j)) (sym o)
                 ∙ i.follows;
-            rest = ap (λ (f : List ℕ). arguments_rest f (words (drop e s))) up ∙ sym (given_yes _ _ _ v r) ∙ rest-next;
+            rest = ap (λ (f : List Kind). arguments_rest f (words (drop e s))) up ∙ sym (given_yes _ _ _ v r) ∙ rest-next;
           }

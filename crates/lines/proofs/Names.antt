@@ -1,10 +1,19 @@
 -- The texts of keys and names are their lists: both sides compute. Assumes nothing.
-use mathlib.Core.Path.{◌≡◌, refl}
-use mathlib.Core.List.{[], ◌∷◌}
-use Rattle.text.specs.Name.{ascii, named}
+use mathlib.Core.Path.{◌≡◌, refl, sym}
+use mathlib.Core.List.{List, [], ◌∷◌}
+use Prim.Native.Nat.{ℕ, ◌≤◌, ◌<◌}
+use native.Mathlib.Omega.{arith}
+use borrow.Author.Tests.{le-leb, lt-leb}
+use lib.ListN.{length}
+use Rattle.base.proofs.Picks.{pick-t, pick-f}
+use Rattle.std.specs.Prelude.{Some, None}
+use Rattle.text.proofs.Names.{found-place, none-found}
+use Rattle.values.specs.Value.{given}
+use Rattle.lines.specs.Option.{attenuation}
+use Rattle.text.specs.Name.{ascii, named, place, found}
 use Rattle.text.specs.Split.{parts, not_empty, blank, grown, words}
-use Rattle.lines.specs.Key.{keys}
-use Rattle.lines.specs.Name.{names}
+use Rattle.lines.specs.Key.{keys, key_count}
+use Rattle.lines.specs.Name.{names, name_count}
 
 pub key-names : words (ascii "buffer waiting length bits samples at receivers centres rate centre port radio board attenuation soft hard window malformed") ≡ keys
 unfolding words parts not_empty blank grown
@@ -14,6 +23,33 @@ pub call-names : words (ascii "begin pass iq status datagram take close missing 
 unfolding words parts not_empty blank grown
 call-names = refl
 
-pub attenuation-names : words (ascii "off on unsaid") ≡ named ("off" ∷ "on" ∷ "unsaid" ∷ [])
+abbrev attenuations : List (List ℕ)
+attenuations = named ("off" ∷ "on" ∷ "unsaid" ∷ [])
+
+pub attenuation-names : words (ascii "off on unsaid") ≡ attenuations
 unfolding words parts not_empty blank grown
 attenuation-names = refl
+
+-- ---- where a name, a key or an attenuation is found, and where it is not
+
+pub name-found : (w : List ℕ) (k : ℕ) → found w names ≡ Some k → (k ≡ place w names) × (k < name_count)
+name-found w k e = let h = found-place w names k e in let l : length names ≡ name_count = refl in (h.0, omega (arith, h.1, l))
+
+pub no-name-found : (w : List ℕ) → found w names ≡ None → name_count ≤ place w names
+no-name-found w e = let l : length names ≡ name_count = refl in omega (arith, none-found w names e, l)
+
+pub no-key-found : (w : List ℕ) → found w keys ≡ None → key_count ≤ place w keys
+no-key-found w e = let l : length keys ≡ key_count = refl in omega (arith, none-found w keys e, l)
+
+pub attenuation-found : (w : List ℕ) (k : ℕ) → found w attenuations ≡ Some k → Some k ≡ attenuation w
+unfolding attenuation given
+attenuation-found w k e =
+    let h = found-place w attenuations k e in
+    let l : length attenuations ≡ 3 = refl in
+    rw (sym h.0) (sym (pick-t _ _ _ (le-leb k 2 (omega (arith, h.1, l)))))
+
+pub no-attenuation : (w : List ℕ) → found w attenuations ≡ None → None ≡ attenuation w
+unfolding attenuation given
+no-attenuation w e =
+    let l : length attenuations ≡ 3 = refl in
+    sym (pick-f _ _ _ (lt-leb (place w attenuations) 2 (omega (arith, none-found w attenuations e, l))))

@@ -14,13 +14,12 @@ use Rattle.text.specs.Name.{place}
 use Rattle.text.specs.Split.{words, part, WordAt}
 use Rattle.text.proofs.Splits.{no_word, one_word}
 use Rattle.lines.specs.declared.Expected.TheVariants as Expected
-use Rattle.lines.specs.declared.Read.TheVariants as Read
 use Rattle.lines.specs.declared.Opening.{Opening}
-use Rattle.lines.specs.declared.option.Took.{Took}
-use Rattle.lines.specs.declared.option.Took.TheVariants.{Taken, Unknown, Unreadable}
+use Rattle.std.specs.Prelude.{Option, Ok, Err}
+use Rattle.lines.specs.declared.option.Untaken.{Untaken}
 use Rattle.lines.specs.Key.{at_key, settings, key_count, unsaid}
 use Rattle.lines.specs.Name.{names, open_name, text_of}
-use Rattle.lines.specs.Option.{options_took, options_values, Ran}
+use Rattle.lines.specs.Option.{Took, Taken, expected_of, options_took, options_values, Ran}
 use Rattle.lines.specs.Call.{longest, or_else}
 use Rattle.lines.specs.Open.{bits_of, settings_of, Within, unread_opening, opened, opened_by, open_words, opening_of}
 use Rattle.lines.proofs.Bounds.{held-unsaid, held-options}
@@ -54,31 +53,27 @@ centre-bits = refl
 
 -- ---- the words after `open`
 
-module _ (n : List ℕ) (ws : List (List ℕ)) (q : Took) (m e : List ℕ) (o : Ran settings key_count unsaid n ws q m e) where
+module _ (n : List ℕ) (ws : List (List ℕ)) (q : Took) (m : List (Option ℕ)) (e : List ℕ) (o : Ran settings key_count unsaid n ws q m e) where
   by : opened q (options_values unsaid ws) ≡ opened_by ws
   unfolding opened_by
   by = ap (λ (x : Took). opened x (options_values unsaid ws)) o.told
 
-  pub not-a-setting : q ≡ Unknown → unread_opening Expected.Setting ≡ opened_by ws
+  pub untaken : (x : Untaken) → q ≡ Err x → unread_opening (expected_of x Expected.Setting) ≡ opened_by ws
   unfolding opened
-  not-a-setting t = rw t at by
-
-  pub no_value : (k : ℕ) → q ≡ Unreadable k → unread_opening (Expected.ValueOf k) ≡ opened_by ws
-  unfolding opened
-  no_value k t = rw t at by
+  untaken x t = rw t at by
 
   module _ (t : q ≡ Taken) where
     values-then : m ≡ options_values unsaid ws
     values-then = o.values t
 
-    pub all_said : ◌≡◌ {A = Opening} (record { read = Read.Open; at = or_else m at_key 0; settings = settings_of m }) (opened_by ws)
+    pub all_said : ◌≡◌ {A = Opening} (record { read = Ok tt; at = or_else m at_key 0; settings = settings_of m }) (opened_by ws)
     unfolding opened
     all_said = ap (opened Taken) values-then ∙ (rw t at by)
 
     pub within : Within m
     within =
         let a : options_took settings key_count unsaid ws ≡ Taken = sym o.told ∙ t in
-        (rw (sym values-then) at (held-options 0 settings key_count ws unsaid (omega arith) a (held-unsaid 0))).options
+        (rw (sym values-then) at (held-options settings key_count ws unsaid (omega arith) a held-unsaid)).options
 
 -- ---- a line
 

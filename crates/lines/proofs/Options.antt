@@ -1,52 +1,46 @@
 -- Options: what each way through a word gives, and a run of words. Assumes nothing.
 use mathlib.Core.Path.{◌≡◌, refl, sym, ap, ◌∙◌}
 use mathlib.Core.List.{List, ◌∷◌}
-use Prim.Native.Nat.{ℕ, ◌+◌, ◌≤◌, ◌<◌}
+use Prim.Native.Nat.{ℕ, ◌≤◌, ◌<◌}
 use native.Mathlib.Omega.{arith}
-use borrow.Author.Tests.{lt-ltb, le-ltb, le-leb, lt-leb, eq-eqb, ne_eqb, eqb-true}
+use borrow.Author.Tests.{lt-ltb, le-ltb, le-leb, lt-leb}
 use mathlib.Core.Bool.{Bool, true, false}
-use lib.Dec.{eqb}
+use lib.Dec.{ltb}
+use Rattle.lines.specs.Key.{key_count}
 use lib.ListN.{length, drop, get_or, set}
-use Rattle.base.specs.Pick.{pick}
 use Rattle.base.proofs.Picks.{pick-t, pick-f}
 use Rattle.octets.specs.Written.{written}
 use Rattle.text.specs.Split.{words, part, WordAt}
-use Rattle.text.specs.declared.Spelt.TheVariants.{Number, Nothing}
+use Rattle.std.specs.Prelude.{is_some, is_err, Option, Some, None, Ok, Err}
 use Rattle.text.proofs.Splits.{no_word, one_word}
-use Rattle.lines.specs.declared.option.Took.{Took}
-use Rattle.lines.specs.declared.option.Took.TheVariants.{Taken, Unknown, Unreadable}
-use Rattle.lines.specs.Key.{keys_at, marks}
-use Rattle.lines.specs.Option.{as_waiting, spellings, limits, spelt_as, numbers_as, numbers_seen_as, numbers_seen_for, key_at, value_at, equals_in, took_key, values_key, took, values_after, numbers_after, if_known, numbers_seen, value_of, numbers_for, Stepped, and_then, options_took, options_values, options_numbers, stopped, options_seen, options_rest, Ran, Stopped}
-use Rattle.values.specs.Waiting.{waiting_count, waiting_numbers, waiting_seen}
+use Rattle.lines.specs.declared.option.Spelling.{Spelling}
+use Rattle.lines.specs.declared.option.Spelling.TheVariants.{Number, Reading, Double, Address, Board, Attenuation, Waiting}
+use Rattle.lines.specs.declared.option.Untaken.{Untaken}
+use Rattle.lines.specs.declared.option.Untaken.TheVariants.{Unknown, Unreadable}
+use Rattle.lines.specs.Option.{Took, Taken, of_waiting, spellings, limits, spelt_as, numbers_as, numbers_seen_as, numbers_seen_for, key_at, value_at, equals_in, took_key, values_key, took, values_after, numbers_after, if_known, numbers_seen, value_of, numbers_for, Stepped, and_then, options_took, options_values, options_numbers, stopped, options_seen, options_rest, Ran, Stopped}
 use Rattle.values.proofs.Values.{given-no, given_yes, up-to-number}
 use Rattle.values.proofs.Spans.{seen-numbers}
 
--- a number that is i is not j
-pub differs : {n : ℕ} (i j : ℕ) → eqb i j ≡ false → n ≡ i → eqb n j ≡ false
-differs i j f e = rw e f
-
 -- ---- of a value that can be read, what was seen is the whole of it
 
-by-waiting : (how : ℕ) (w : List ℕ) → how ≡ as_waiting → spelt_as how w ≡ waiting_count w
-unfolding spelt_as pick
-by-waiting how w e = rw e
+seen_as : (how : Spelling) (w d : List ℕ) (v : ℕ) → spelt_as how w ≡ Some v → numbers_seen_as how w d ≡ numbers_as how w d
+unfolding spelt_as numbers_seen_as numbers_as of_waiting
+seen_as Number w d v e = refl
+seen_as Reading w d v e = refl
+seen_as Double w d v e = refl
+seen_as Address w d v e = refl
+seen_as Board w d v e = refl
+seen_as Attenuation w d v e = refl
+seen_as Waiting w d v e = ap (written d 0) (seen-numbers w v e)
 
-seen_as : (how : ℕ) (w d : List ℕ) (v : ℕ) → spelt_as how w ≡ Number v → numbers_seen_as how w d ≡ numbers_as how w d
-unfolding numbers_seen_as numbers_as pick
-seen_as how w d v e = go (eqb how as_waiting) refl
-  where
-    go : (b : Bool) → eqb how as_waiting ≡ b → pick b (written d 0 (waiting_seen w)) d ≡ pick b (written d 0 (waiting_numbers w)) d
-    go true q = ap (written d 0) (seen-numbers w v (sym (by-waiting how w (eqb-true how as_waiting q)) ∙ e))
-    go false q = refl
-
-seen-whole : (key : ℕ) (w d : List ℕ) (v : ℕ) → value_of key w ≡ Number v → numbers_seen_for key w d ≡ numbers_for key w d
+seen-whole : (key : ℕ) (w d : List ℕ) (v : ℕ) → value_of key w ≡ Some v → numbers_seen_for key w d ≡ numbers_for key w d
 unfolding value_of
-seen-whole key w d v e = seen_as (get_or spellings key 0) w d v (up-to-number (get_or limits key 0) (spelt_as (get_or spellings key 0) w) v e)
+seen-whole key w d v e = seen_as (get_or spellings key Number) w d v (up-to-number (get_or limits key 0) (spelt_as (get_or spellings key Number) w) v e)
 
 -- ---- a word
 
-module _ (from to : ℕ) (l d w m : List ℕ) where
-  unknown : Unknown ≡ took from to l w → Stepped from to l d w Unknown m d
+module _ (from to : ℕ) (l : List (Option ℕ)) (d w : List ℕ) (m : List (Option ℕ)) where
+  unknown : Err Unknown ≡ took from to l w → Stepped from to l d w (Err Unknown) m d
   unfolding numbers_seen if_known
   unknown e =
       record {
@@ -57,7 +51,7 @@ module _ (from to : ℕ) (l d w m : List ℕ) where
       }
 
   module _ (equals : ℕ) (e : equals ≡ equals_in w) where
-    pub no-equals : length w ≤ equals → Stepped from to l d w Unknown m d
+    pub no-equals : length w ≤ equals → Stepped from to l d w (Err Unknown) m d
     unfolding took
     no-equals h = unknown (sym (pick-t _ _ _ (le-leb (length w) (equals_in w) (omega arith))))
 
@@ -69,32 +63,41 @@ module _ (from to : ℕ) (l d w m : List ℕ) where
           ∙ ap (λ (j : ℕ). took_key (key_at j w) (value_at j w) from to l) e
           ∙ sym (pick-f _ _ _ (lt-leb (length w) (equals_in w) (omega arith)))
 
-      pub key_below : key < from → Stepped from to l d w Unknown m d
+      pub key_below : key < from → Stepped from to l d w (Err Unknown) m d
       unfolding took_key
       key_below b = unknown (sym (pick-t _ _ _ (lt-ltb _ _ b)) ∙ by_key)
 
+      -- a word that is no key
+      pub no-key : to ≤ key_count → key_count ≤ key → Stepped from to l d w (Err Unknown) m d
+      unfolding took_key
+      no-key u v = unknown (go (ltb key from) refl ∙ by_key)
+        where
+          go : (b : Bool) → ltb key from ≡ b → Err Unknown ≡ took_key key (value_at equals w) from to l
+          go true t = sym (pick-t _ _ _ t)
+          go false t = sym (pick-f _ _ _ t ∙ pick-t _ _ _ (le-leb to key (omega arith)))
+
       module _ (b : from ≤ key) where
-        pub key_above : to ≤ key → Stepped from to l d w Unknown m d
+        pub key_above : to ≤ key → Stepped from to l d w (Err Unknown) m d
         unfolding took_key
         key_above a = unknown (sym (pick-f _ _ _ (le-ltb _ _ b) ∙ pick-t _ _ _ (le-leb _ _ a)) ∙ by_key)
 
         module _ (a : key < to) where
-          pub said-before : get_or l (marks + key) 0 ≡ 1 → Stepped from to l d w Unknown m d
+          pub said-before : is_some (get_or l key None) ≡ true → Stepped from to l d w (Err Unknown) m d
           unfolding took_key
-          said-before s = unknown (sym (pick-f _ _ _ (le-ltb _ _ b) ∙ pick-f _ _ _ (lt-leb _ _ a) ∙ pick-t _ _ _ (eq-eqb _ _ s)) ∙ by_key)
+          said-before s = unknown (sym (pick-f _ _ _ (le-ltb _ _ b) ∙ pick-f _ _ _ (lt-leb _ _ a) ∙ pick-t _ _ _ s) ∙ by_key)
 
-          module _ (s : get_or l (marks + key) 0 ≡ 1 → ⊥) (n : List ℕ) (g : n ≡ numbers_seen_for key (value_at equals w) d) where
+          module _ (s : is_some (get_or l key None) ≡ false) (n : List ℕ) (g : n ≡ numbers_seen_for key (value_at equals w) d) where
             seen-known : n ≡ numbers_seen_for (key_at (equals_in w) w) (value_at (equals_in w) w) d
             seen-known =
                 g
                 ∙ ap (λ (j : ℕ). numbers_seen_for j (value_at equals w) d) k
                 ∙ ap (λ (j : ℕ). numbers_seen_for (key_at j w) (value_at j w) d) e
 
-            pub unread-value : value_of key (value_at equals w) ≡ Nothing → Stepped from to l d w (Unreadable key) m n
+            pub unread-value : value_of key (value_at equals w) ≡ None → Stepped from to l d w (Err (Unreadable key)) m n
             unfolding took_key numbers_seen if_known
             unread-value r =
-                let u : Unreadable key ≡ took from to l w =
-                sym (pick-f _ _ _ (le-ltb _ _ b) ∙ pick-f _ _ _ (lt-leb _ _ a) ∙ pick-f _ _ _ (ne_eqb _ _ s) ∙ given-no _ _ _ r) ∙ by_key in
+                let u : Err (Unreadable key) ≡ took from to l w =
+                sym (pick-f _ _ _ (le-ltb _ _ b) ∙ pick-f _ _ _ (lt-leb _ _ a) ∙ pick-f _ _ _ s ∙ given-no _ _ _ r) ∙ by_key in
                 record {
                   told = u;
                   values = λ t. let z : ◌≡◌ {A = ℕ} 0 1 = cc in absurd (omega arith);
@@ -102,17 +105,17 @@ module _ (from to : ℕ) (l d w m : List ℕ) where
                   seen = seen-known ∙ ap (λ (x : Took). if_known x (numbers_seen_for (key_at (equals_in w) w) (value_at (equals_in w) w) d) d) u;
                 }
 
-            pub taken : (v : ℕ) → value_of key (value_at equals w) ≡ Number v → m ≡ set (set l (keys_at + key) v) (marks + key) 1
+            pub taken : (v : ℕ) → value_of key (value_at equals w) ≡ Some v → m ≡ set l key (Some v)
                 → Stepped from to l d w Taken m n
             unfolding took_key values_after values_key numbers_after numbers_seen if_known
             taken v r f =
                 let u : Taken ≡ took from to l w =
-                sym (pick-f _ _ _ (le-ltb _ _ b) ∙ pick-f _ _ _ (lt-leb _ _ a) ∙ pick-f _ _ _ (ne_eqb _ _ s) ∙ given_yes _ _ _ v r) ∙ by_key in
+                sym (pick-f _ _ _ (le-ltb _ _ b) ∙ pick-f _ _ _ (lt-leb _ _ a) ∙ pick-f _ _ _ s ∙ given_yes _ _ _ v r) ∙ by_key in
                 record {
                   told = u;
                   values =
                       λ t. f
-                      ∙ ap (λ (x : ℕ). set (set l (keys_at + key) x) (marks + key) 1) (sym (given_yes _ (λ (x : ℕ). x) 0 v r))
+                      ∙ ap (λ (x : ℕ). set l key (Some x)) (sym (given_yes _ (λ (x : ℕ). x) 0 v r))
                       ∙ ap (λ (j : ℕ). values_key j (value_at equals w) l) k
                       ∙ ap (λ (j : ℕ). values_key (key_at j w) (value_at j w) l) e;
                   numbers =
@@ -123,10 +126,19 @@ module _ (from to : ℕ) (l d w m : List ℕ) where
                   seen = seen-known ∙ ap (λ (x : Took). if_known x (numbers_seen_for (key_at (equals_in w) w) (value_at (equals_in w) w) d) d) u;
                 }
 
+-- a result tells by its test whether a word was taken
+pub why : (r : Took) → is_err r ≡ true → (x : Untaken) × (r ≡ Err x)
+why (Ok u) e = cc
+why (Err x) e = (x, refl)
+
+pub was-taken : (r : Took) → is_err r ≡ false → r ≡ Taken
+was-taken (Ok u) e = refl
+was-taken (Err x) e = cc
+
 -- ---- a run of words
 
 -- the words before at were taken, and have left m and n
-pub record Running (from to : ℕ) (s l d : List ℕ) (start at : ℕ) (m n : List ℕ) : Type 0 where
+pub record Running (from to : ℕ) (s : List ℕ) (l : List (Option ℕ)) (d : List ℕ) (start at : ℕ) (m : List (Option ℕ)) (n : List ℕ) : Type 0 where
   pub within : at ≤ length s
   pub as_long : length m ≡ length l
   pub as_many : length n ≡ length d
@@ -136,10 +148,10 @@ pub record Running (from to : ℕ) (s l d : List ℕ) (start at : ℕ) (m n : Li
   pub seen : options_seen from to m n (words (drop at s)) ≡ options_seen from to l d (words (drop start s))
   pub rest : options_rest from to m (words (drop at s)) ≡ options_rest from to l (words (drop start s))
 
-pub running : (from to : ℕ) (s l d : List ℕ) (start : ℕ) → start ≤ length s → Running from to s l d start start l d
+pub running : (from to : ℕ) (s : List ℕ) (l : List (Option ℕ)) (d : List ℕ) (start : ℕ) → start ≤ length s → Running from to s l d start start l d
 running from to s l d start h = record { within = h; as_long = refl; as_many = refl; told = refl; values = refl; numbers = refl; seen = refl; rest = refl }
 
-module _ (from to : ℕ) (s l d : List ℕ) (start at : ℕ) (m n : List ℕ) (i : Running from to s l d start at m n) (a e : ℕ) (w : WordAt s at a e) where
+module _ (from to : ℕ) (s : List ℕ) (l : List (Option ℕ)) (d : List ℕ) (start at : ℕ) (m : List (Option ℕ)) (n : List ℕ) (i : Running from to s l d start at m n) (a e : ℕ) (w : WordAt s at a e) where
   pub no_more : a ≡ e → Ran from to l d (words (drop start s)) Taken m n
   unfolding options_took options_values options_numbers options_seen
   no_more z =
@@ -157,7 +169,7 @@ module _ (from to : ℕ) (s l d : List ℕ) (start at : ℕ) (m n : List ℕ) (i
       let q = no_word s at a e w z in
       record { within = i.within; rest = q ∙ sym (ap (options_rest from to m) q) ∙ i.rest }
 
-  module _ (z : a ≡ e → ⊥) (r : Took) (o p : List ℕ) (t : Stepped from to m n (part s a e) r o p) where
+  module _ (z : a ≡ e → ⊥) (r : Took) (o : List (Option ℕ)) (p : List ℕ) (t : Stepped from to m n (part s a e) r o p) where
     told_here : and_then r (options_took from to (values_after m (part s a e)) (words (drop e s))) ≡ options_took from to l (words (drop start s))
     unfolding options_took
     told_here =
@@ -180,33 +192,20 @@ module _ (from to : ℕ) (s l d : List ℕ) (start at : ℕ) (m n : List ℕ) (i
         ∙ sym (ap (options_seen from to m n) (one_word s at a e w z))
         ∙ i.seen
 
-    pub stops-there : r ≡ Unknown → Stopped from to s l (words (drop start s)) at
-    unfolding stopped
-    stops-there q = record { within = i.within; rest = one_word s at a e w z ∙ (rw q at rest-here) }
+    module _ (x : Untaken) (q : r ≡ Err x) where
+      pub stops-there : Stopped from to s l (words (drop start s)) at
+      unfolding stopped
+      stops-there = record { within = i.within; rest = one_word s at a e w z ∙ (rw q at rest-here) }
 
-    pub stops-at-value : (k : ℕ) → r ≡ Unreadable k → Stopped from to s l (words (drop start s)) at
-    unfolding stopped
-    stops-at-value k q = record { within = i.within; rest = one_word s at a e w z ∙ (rw q at rest-here) }
-
-    pub stops-unknown : r ≡ Unknown → Ran from to l d (words (drop start s)) Unknown o p
-    unfolding and_then stopped
-    stops-unknown q =
-        record {
-          told = rw q at told_here;
-          values = λ x. let z : ◌≡◌ {A = ℕ} 0 1 = cc in absurd (omega arith);
-          numbers = λ x. let z : ◌≡◌ {A = ℕ} 0 1 = cc in absurd (omega arith);
-          seen = rw q at seen_here;
-        }
-
-    pub stops-unread : (k : ℕ) → r ≡ Unreadable k → Ran from to l d (words (drop start s)) (Unreadable k) o p
-    unfolding and_then stopped
-    stops-unread k q =
-        record {
-          told = rw q at told_here;
-          values = λ x. let z : ◌≡◌ {A = ℕ} 0 1 = cc in absurd (omega arith);
-          numbers = λ x. let z : ◌≡◌ {A = ℕ} 0 1 = cc in absurd (omega arith);
-          seen = rw q at seen_here;
-        }
+      pub stops-untaken : Ran from to l d (words (drop start s)) r o p
+      unfolding and_then stopped
+      stops-untaken =
+          record {
+            told = q ∙ (rw q at told_here);
+            values = λ t. let z : Err x ≡ Taken = sym q ∙ t in let z : ◌≡◌ {A = ℕ} 0 1 = cc in absurd (omega arith);
+            numbers = λ t. let z : Err x ≡ Taken = sym q ∙ t in let z : ◌≡◌ {A = ℕ} 0 1 = cc in absurd (omega arith);
+            seen = rw q at seen_here;
+          }
 
     pub goes_on : r ≡ Taken → length o ≡ length m → length p ≡ length n → Running from to s l d start e o p
     unfolding and_then options_values options_numbers stopped
@@ -215,15 +214,15 @@ module _ (from to : ℕ) (s l d : List ℕ) (start at : ℕ) (m n : List ℕ) (i
           within = w.within;
           as_long = x ∙ i.as_long;
           as_many = y ∙ i.as_many;
-          told = ap (λ (v : List ℕ). options_took from to v (words (drop e s))) (t.values q) ∙ (rw q at told_here);
+          told = ap (λ (v : List (Option ℕ)). options_took from to v (words (drop e s))) (t.values q) ∙ (rw q at told_here);
           values =
-              ap (λ (v : List ℕ). options_values v (words (drop e s))) (t.values q)
+              ap (λ (v : List (Option ℕ)). options_values v (words (drop e s))) (t.values q)
               ∙ sym (ap (options_values m) (one_word s at a e w z))
               ∙ i.values;
           numbers =
               ap (λ (v : List ℕ). options_numbers v (words (drop e s))) (t.numbers q)
               ∙ sym (ap (options_numbers n) (one_word s at a e w z))
               ∙ i.numbers;
-          seen = ap (λ (v : List ℕ). options_seen from to v p (words (drop e s))) (t.values q) ∙ (rw q at seen_here);
-          rest = ap (λ (v : List ℕ). options_rest from to v (words (drop e s))) (t.values q) ∙ (rw q at rest-here);
+          seen = ap (λ (v : List (Option ℕ)). options_seen from to v p (words (drop e s))) (t.values q) ∙ (rw q at seen_here);
+          rest = ap (λ (v : List (Option ℕ)). options_rest from to v (words (drop e s))) (t.values q) ∙ (rw q at rest-here);
         }

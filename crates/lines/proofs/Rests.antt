@@ -10,12 +10,25 @@ use Rattle.text.specs.Run.{run, other}
 use Rattle.text.specs.Name.{place}
 use Rattle.text.specs.Split.{words, before, part, WordAt}
 use Rattle.text.proofs.Splits.{no_word, one_word, part-front}
-use Rattle.lines.specs.Key.{buffer_key, settings, key_count, unsaid}
+use Rattle.lines.specs.Key.{buffer_key, settings, key_count, unread_words, unsaid}
 use Rattle.lines.specs.Name.{names, open_name, name_count, ends, text_of}
-use Rattle.lines.specs.Argument.{all_read, form, Arguments}
+use mathlib.Core.Bool.{true, false}
+use Rattle.std.specs.Prelude.{is_some, Option, Some, None}
+use Rattle.lines.specs.declared.argument.Kind.{Kind}
+use Rattle.lines.specs.Argument.{form, unread, if_read, arguments_rest, Arguments}
 use Rattle.lines.specs.Option.{options_rest, Stopped}
-use Rattle.lines.specs.Call.{arguments_of}
+use Rattle.lines.specs.Call.{options_of}
 use Rattle.lines.specs.Found.{rest_named, rest_words, found_in, first_in, Stands}
+
+-- ---- whether every word of a form was read
+
+pub some-unread : (r : Option Kind) → is_some r ≡ true → (t : Kind) × (r ≡ Some t)
+some-unread None e = cc
+some-unread (Some t) e = (t, refl)
+
+pub none-unread : (r : Option Kind) → is_some r ≡ false → r ≡ None
+none-unread None e = refl
+none-unread (Some t) e = cc
 
 -- ---- among the words after a name
 
@@ -24,24 +37,21 @@ module _ (name : ℕ) (s : List ℕ) (ws : List (List ℕ)) where
   unfolding rest_named
   at-setting e at h = (h.within, h.rest ∙ sym (pick-t _ _ _ (eq-eqb name open_name e)))
 
-  module _ (f : name ≡ open_name → ⊥) (d : List ℕ) (r at : ℕ) (m e : List ℕ) (g : Arguments (form name) s unsaid d ws r at m e) where
-    pub at-word : (r ≡ all_read → ⊥) → (at ≤ length s) × (words (drop at s) ≡ rest_named name ws)
-    unfolding rest_named
-    at-word h =
-        (g.within, g.rest ∙ sym (pick-f _ _ _ (ne_eqb name open_name f) ∙ pick-f _ _ _ (ne_eqb _ _ (λ q. h (g.told ∙ q)))))
+  module _ (f : name ≡ open_name → ⊥) (d : List ℕ) (r : Option Kind) (at : ℕ) (m e : List ℕ) (g : Arguments (form name) s unread_words d ws r at m e) where
+    pub at-word : (t : Kind) → r ≡ Some t → (at ≤ length s) × (words (drop at s) ≡ rest_named name ws)
+    unfolding rest_named if_read
+    at-word t h = let u : unread (form name) ws ≡ Some t = sym g.told ∙ h in (g.within, g.rest ∙ sym (pick-f _ _ _ (ne_eqb name open_name f) ∙ rw u))
 
-    pub at_option : r ≡ all_read → (to : ℕ) → to ≡ get_or ends name 0 → (z : ℕ) → Stopped buffer_key to s m (words (drop at s)) z
+    pub at_option : r ≡ None → (to : ℕ) → to ≡ get_or ends name 0 → (z : ℕ) → Stopped buffer_key to s unsaid (words (drop at s)) z
         → (z ≤ length s) × (words (drop z s) ≡ rest_named name ws)
-    unfolding rest_named
-    at_option h to k z o =
-        let v : m ≡ arguments_of name ws = g.values h in (
-          o.within,
-          o.rest
-              ∙ ap (λ (x : ℕ). options_rest buffer_key x m (words (drop at s))) k
-              ∙ ap (λ (x : List ℕ). options_rest buffer_key (get_or ends name 0) x (words (drop at s))) v
-              ∙ ap (options_rest buffer_key (get_or ends name 0) (arguments_of name ws)) (g.follows h)
-              ∙ sym (pick-f _ _ _ (ne_eqb name open_name f) ∙ pick-t _ _ _ (eq-eqb _ _ (sym g.told ∙ h))),
-        )
+    unfolding rest_named if_read
+    at_option h to k z o = (
+      o.within,
+      o.rest
+          ∙ ap (λ (x : ℕ). options_rest buffer_key x unsaid (words (drop at s))) k
+          ∙ ap (options_rest buffer_key (get_or ends name 0) unsaid) (g.follows h)
+          ∙ sym (pick-f _ _ _ (ne_eqb name open_name f) ∙ ap (λ (x : Option Kind). if_read x (options_rest buffer_key (get_or ends name 0) unsaid (options_of name ws)) (arguments_rest (form name) ws)) (sym g.told ∙ h)),
+    )
 
 -- ---- in a line
 

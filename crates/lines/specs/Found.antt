@@ -5,17 +5,17 @@ use Rattle.text.specs.Name.{place}
 use Rattle.text.specs.Split.{part}
 use Rattle.lines.specs.Key.{buffer_key, settings, key_count, unsaid}
 use Rattle.lines.specs.Name.{names, open_name, name_count, ends}
-use Rattle.lines.specs.Argument.{all_read, form, unread, arguments_rest}
+use Rattle.lines.specs.Argument.{form, unread, if_read, arguments_rest}
 use Rattle.lines.specs.Option.{options_rest}
-use Rattle.lines.specs.Call.{arguments_of, options_of, words_of}
+use Rattle.lines.specs.Call.{options_of, words_of}
 
 -- of the words after a name, those from the one on that can't be read: of `open` among its settings, of a call among the words of its
 -- form and then among its options
 unfoldable pub rest_named : ℕ → List (List ℕ) → List (List ℕ)
 rest_named name ws =
     pick (eqb name open_name) (options_rest settings key_count unsaid ws)
-    (pick (eqb (unread (form name) ws) all_read)
-    (options_rest buffer_key (get_or ends name 0) (arguments_of name ws) (options_of name ws))
+    (if_read (unread (form name) ws)
+    (options_rest buffer_key (get_or ends name 0) unsaid (options_of name ws))
     (arguments_rest (form name) ws))
 
 -- of all words: from the first on where it is no name

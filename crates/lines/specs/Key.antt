@@ -1,5 +1,5 @@
--- The keys of options by name, and the places of a line's values: its words, then a value and a mark for each key. Definitions only.
-use Rattle.std.specs.Prelude.{ℕ, List, [], ◌∷◌, replicate}
+-- The keys of options by name, and the places of the words after a call's name. Definitions only.
+use Rattle.std.specs.Prelude.{ℕ, List, [], ◌∷◌, replicate, Option, None}
 use Rattle.text.specs.Name.{named}
 
 -- a key is its place here: the options of the calls, then the settings of `open`
@@ -90,9 +90,6 @@ key_count = 18
 -- ---- places
 
 -- the words after a call's name
-abbrev pub words_at : ℕ
-words_at = 0
-
 abbrev pub first_word : ℕ
 first_word = 0
 
@@ -105,20 +102,16 @@ third_word = 2
 abbrev pub fourth_word : ℕ
 fourth_word = 3
 
--- key k's value is at keys_at + k; at marks + k is 1 where it was said
-abbrev pub keys_at : ℕ
-keys_at = 4
+abbrev pub word_count : ℕ
+word_count = 4
 
-abbrev pub marks : ℕ
-marks = 36
+-- no word is read yet
+abbrev pub unread_words : List ℕ
+unread_words = replicate word_count 0
 
--- room for 28 keys
-abbrev pub value_count : ℕ
-value_count = 64
-
--- no value is said yet
-abbrev pub unsaid : List ℕ
-unsaid = replicate value_count 0
+-- no key is said yet
+abbrev pub unsaid : List (Option ℕ)
+unsaid = replicate key_count None
 
 -- ---- lent buffers
 

@@ -1,7 +1,7 @@
 -- The names of calls, what a call of each has, and the name that a line begins with. Definitions only.
-use Rattle.std.specs.Prelude.{ℕ, ◌≤◌, ◌≡◌, List, [], ◌∷◌, length, take}
+use Rattle.std.specs.Prelude.{ℕ, ◌≤◌, ◌≡◌, List, [], ◌∷◌, length, take, Option}
 use Rattle.text.specs.Run.{run, other}
-use Rattle.text.specs.Name.{named, place}
+use Rattle.text.specs.Name.{named, found}
 use Rattle.text.specs.Split.{part, WordAt}
 use Rattle.lines.specs.Key.{buffer_key, waiting_key, length_key, settings}
 
@@ -78,9 +78,9 @@ buffers = 0 ∷ 4452 ∷ 1444 ∷ 1444 ∷ 1444 ∷ 0 ∷ 2888 ∷ 0 ∷ 0 ∷ 0
 abbrev pub text_of : List ℕ → List ℕ
 text_of line = take (run (other 35) line) line
 
--- a line's text ends at text, and its first word, from start to end, has this name; name_count where it is none
-pub record Begins (line : List ℕ) (text start end name : ℕ) : Type 0 where
+-- a line's text ends at text, and its first word, from start to end, has this name, if it is one
+pub record Begins (line : List ℕ) (text start end : ℕ) (name : Option ℕ) : Type 0 where
   pub within : text ≤ length line
   pub cut : take text line ≡ text_of line
   pub word : WordAt (take text line) 0 start end
-  pub named : name ≡ place (part (take text line) start end) names
+  pub named : name ≡ found (part (take text line) start end) names

@@ -1,40 +1,35 @@
 -- `open`: its settings, and what each is where it is left out. Definitions only.
-use Rattle.std.specs.Prelude.{ℕ, ◌+◌, ◌≤◌, ◌<◌, List, [], ◌∷◌, ltb, eqb, pos, Float, length, get_or}
+use Rattle.std.specs.Prelude.{ℕ, ◌≤◌, ◌<◌, List, [], ◌∷◌, ltb, eqb, pos, Float, length, get_or, Option, Some, None, Ok, Err}
 use Rattle.std.specs.Float.{binary64}
 use Rattle.std.specs.Float.Ieee.{of_int, of_bits, to_bits}
 use Rattle.base.specs.Pick.{pick}
 use Rattle.text.specs.Name.{place}
 use Rattle.tuning.specs.Board.{board_info}
-use Rattle.tuning.specs.declared.board.BoardId.{BoardId}
-use Rattle.tuning.specs.declared.board.BoardId.TheVariants.{Skipped, Number}
 use Rattle.model.specs.declared.settings.Settings.{Settings}
 use Rattle.model.specs.declared.settings.AttenuationChoice.{AttenuationChoice}
 use Rattle.model.specs.declared.settings.AttenuationChoice.TheVariants.{Off, On, Unsaid}
 use Rattle.lines.specs.declared.Expected.{Expected}
-use Rattle.lines.specs.declared.Read.TheVariants as Read
 use Rattle.lines.specs.declared.Opening.{Opening}
-use Rattle.lines.specs.declared.option.Took.{Took}
-use Rattle.lines.specs.declared.option.Took.TheVariants.{Taken, Unknown, Unreadable}
-use Rattle.lines.specs.Key.{settings, at_key, receivers_key, centres_key, rate_key, centre_key, port_key, radio_key, board_key, attenuation_key, soft_key, hard_key, window_key, malformed_key, key_count, keys_at, unsaid}
+use Rattle.lines.specs.Key.{settings, at_key, receivers_key, centres_key, rate_key, centre_key, port_key, radio_key, board_key, attenuation_key, soft_key, hard_key, window_key, malformed_key, key_count, unsaid}
 use Rattle.lines.specs.Name.{names, open_name}
-use Rattle.lines.specs.Option.{limits, options_took, options_values}
+use Rattle.lines.specs.Option.{limits, Took, expected_of, options_took, options_values}
 use Rattle.lines.specs.Call.{longest, words_of, or_else}
 
 -- a whole number's double, as its bits
 abbrev pub bits_of : ℕ → ℕ
 bits_of n = to_bits binary64 (of_int binary64 (pos n))
 
-unfoldable pub double_or : List ℕ → ℕ → ℕ → Float
+unfoldable pub double_or : List (Option ℕ) → ℕ → ℕ → Float
 double_or l key other = of_bits binary64 (or_else l key other)
 
-unfoldable pub board_id : ℕ → BoardId
-board_id n = pick (eqb n 256) Skipped (Number n)
+unfoldable pub board_id : ℕ → Option ℕ
+board_id n = pick (eqb n 256) None (Some n)
 
 unfoldable pub choice : ℕ → AttenuationChoice
 choice n = pick (eqb n 0) Off (pick (eqb n 1) On Unsaid)
 
 -- 10.0.0.2, 4500 ms and 10 s are the address and the stall times that are left out
-unfoldable pub settings_of : List ℕ → Settings
+unfoldable pub settings_of : List (Option ℕ) → Settings
 settings_of l =
     record {
       ddc_count = or_else l receivers_key 1;
@@ -52,17 +47,16 @@ settings_of l =
     }
 
 -- every value is within its key's limit
-abbrev pub Within : List ℕ → Type 0
-Within l = (k : ℕ) → k < key_count → get_or l (keys_at + k) 0 ≤ get_or limits k 0
+abbrev pub Within : List (Option ℕ) → Type 0
+Within l = (k : ℕ) → k < key_count → or_else l k 0 ≤ get_or limits k 0
 
 -- what can't be read has the settings of an `open` that says none
 unfoldable pub unread_opening : Expected → Opening
-unread_opening e = record { read = Read.Unread e; at = 0; settings = settings_of unsaid }
+unread_opening e = record { read = Err e; at = 0; settings = settings_of unsaid }
 
-unfoldable pub opened : Took → List ℕ → Opening
-opened Taken l = record { read = Read.Open; at = or_else l at_key 0; settings = settings_of l }
-opened Unknown l = unread_opening Expected.Setting
-opened (Unreadable k) l = unread_opening (Expected.ValueOf k)
+unfoldable pub opened : Took → List (Option ℕ) → Opening
+opened (Ok u) l = record { read = Ok tt; at = or_else l at_key 0; settings = settings_of l }
+opened (Err x) l = unread_opening (expected_of x Expected.Setting)
 
 unfoldable pub opened_by : List (List ℕ) → Opening
 opened_by ws = opened (options_took settings key_count unsaid ws) (options_values unsaid ws)

@@ -2,14 +2,14 @@
 ghost use Rattle.std.specs.Prelude.{◌≡◌, ◌≤◌, ◌<◌, length, drop};
 ghost use Rattle.text.specs.Split.{words};
 ghost use Rattle.lines.specs.Call as Call;
-ghost use Rattle.lines.specs.Key.{key_count, value_count, most_octets, most_numbers};
+ghost use Rattle.lines.specs.Key.{key_count, most_octets, most_numbers};
 ghost use Rattle.lines.specs.Name.{name_count};
 
-use super::argument::{ALL_READ, arguments};
-use super::key::{BUFFER, KEYS_AT, MARKS, VALUES};
-use super::name::{BUFFERS, ENDS, KINDS, NAME_COUNT, begins};
-use super::option::{Took, options};
-use super::{Expected, LONGEST, MOST_NUMBERS, MOST_OCTETS, Read, argument, key, name};
+use super::argument::{Kind, arguments};
+use super::key::{BUFFER, KEY_COUNT, WORD_COUNT};
+use super::name::{BUFFERS, ENDS, KINDS, begins};
+use super::option::options;
+use super::{Expected, LONGEST, MOST_NUMBERS, MOST_OCTETS, Read, key, name};
 use iq::IQ_DATAGRAM_LEN;
 use stream::{BITS_PER_SAMPLE, SAMPLES_PER_DATAGRAM};
 use values::datagram::{put_iq, put_status};
@@ -20,54 +20,48 @@ const LENGTH: u64 = IQ_DATAGRAM_LEN as u64;
 
 const BITS: u64 = BITS_PER_SAMPLE as u64;
 
-fn expected_word(t: u8) -> Expected
-    ensures { result ≡ Call.expected_word t }
+fn expected_word(kind: Kind) -> Expected
+    ensures { result ≡ Call.expected_word kind }
 {
-    if t == argument::READING {
-        return Expected::Reading;
+    match kind {
+        Kind::Reading => Expected::Reading,
+        Kind::Number => Expected::DatagramNumber,
+        Kind::Octet => Expected::Octet,
+        Kind::Places => Expected::Places,
+        Kind::Sender => Expected::Sender,
+        Kind::Octets => Expected::Octets,
     }
-    if t == argument::NUMBER {
-        return Expected::DatagramNumber;
-    }
-    if t == argument::OCTET {
-        return Expected::Octet;
-    }
-    if t == argument::PLACES {
-        return Expected::Places;
-    }
-    if t == argument::SENDER {
-        return Expected::Sender;
-    }
-    Expected::Octets
+}
+
+// What a call's line says: its words, and each key's value where the key is said.
+#[derive(Clone, Copy)]
+pub struct Values {
+    pub words: [u64; WORD_COUNT],
+    pub keys: [Option<u64>; KEY_COUNT],
 }
 
 // A key's value, or what it is where it is left out.
-pub(crate) fn or_else(values: &[u64], key: usize, other: u64) -> u64
-    requires { (key < key_count) × (value_count ≤ length values.now) }
-    ensures { result ≡ Call.or_else values.now key other }
+pub(crate) fn or_else(keys: &[Option<u64>], key: usize, other: u64) -> u64
+    requires { (key < key_count) × (key_count ≤ length keys.now) }
+    ensures { result ≡ Call.or_else keys.now key other }
 {
-    if values[MARKS + key] == 1 {
-        return values[KEYS_AT + key];
-    }
-    other
+    keys[key].unwrap_or(other)
 }
 
-fn later_of(name: usize, values: &[u64]) -> u64
-    requires { value_count ≤ length values.now }
+fn later_of(name: usize, values: &Values) -> u64
     ensures { result ≡ Call.later_of name values.now }
 {
     if name == name::TAKE {
         return 0;
     }
-    values[key::SECOND_WORD]
+    values.words[key::SECOND_WORD]
 }
 
-fn address_of(name: usize, ip: u32, values: &[u64]) -> u64
-    requires { value_count ≤ length values.now }
+fn address_of(name: usize, ip: u32, values: &Values) -> u64
     ensures { result ≡ Call.address_of name ip values.now }
 {
     if name == name::DATAGRAM {
-        return values[key::THIRD_WORD] / 65536;
+        return values.words[key::THIRD_WORD] / 65536;
     }
     if name == name::IQ {
         return ip as u64;
@@ -78,12 +72,11 @@ fn address_of(name: usize, ip: u32, values: &[u64]) -> u64
     0
 }
 
-fn port_of(name: usize, port: u16, values: &[u64]) -> u64
-    requires { value_count ≤ length values.now }
+fn port_of(name: usize, port: u16, values: &Values) -> u64
     ensures { result ≡ Call.port_of name port values.now }
 {
     if name == name::DATAGRAM {
-        return values[key::THIRD_WORD] % 65536;
+        return values.words[key::THIRD_WORD] % 65536;
     }
     if name == name::IQ {
         return (port as u64 + 11) % 65536;
@@ -94,61 +87,60 @@ fn port_of(name: usize, port: u16, values: &[u64]) -> u64
     0
 }
 
-fn count_of(name: usize, values: &[u64]) -> u64
-    requires { value_count ≤ length values.now }
+fn count_of(name: usize, values: &Values) -> u64
     ensures { result ≡ Call.count_of name values.now }
 {
     if name == name::IQ {
-        return or_else(values, key::LENGTH, LENGTH);
+        return or_else(&values.keys, key::LENGTH, LENGTH);
     }
     if name == name::STATUS {
         return STATUS_LEN as u64;
     }
     if name == name::DATAGRAM {
-        return values[key::FOURTH_WORD];
+        return values.words[key::FOURTH_WORD];
     }
     0
 }
 
-fn places_of(name: usize, values: &[u64]) -> u64
-    requires { (name < name_count) × (value_count ≤ length values.now) }
+fn places_of(name: usize, values: &Values) -> u64
+    requires { name < name_count }
     ensures { result ≡ Call.places_of name values.now }
 {
     if name == name::TAKE {
-        return values[key::SECOND_WORD];
+        return values.words[key::SECOND_WORD];
     }
-    or_else(values, BUFFER, BUFFERS[name])
+    or_else(&values.keys, BUFFER, BUFFERS[name])
 }
 
-fn call_of(name: usize, ip: u32, port: u16, values: &[u64]) -> [u64; 8]
-    requires { (name < name_count) × (value_count ≤ length values.now) }
+fn call_of(name: usize, ip: u32, port: u16, values: &Values) -> [u64; 8]
+    requires { name < name_count }
     ensures { result ≡ Call.call_of name ip port values.now }
 {
     let kind = KINDS[name];
-    let reading = values[key::FIRST_WORD];
+    let reading = values.words[key::FIRST_WORD];
     let later = later_of(name, values);
     let address = address_of(name, ip, values);
     let from = port_of(name, port, values);
     let count = count_of(name, values);
-    let waiting = values[KEYS_AT + key::WAITING];
+    let waiting = or_else(&values.keys, key::WAITING, 0);
     let places = places_of(name, values);
     [kind, reading, later, address, from, count, waiting, places]
 }
 
 // The datagram of an `iq` or a `status` line; that of `datagram` is there.
-fn put_datagram(name: usize, values: &[u64], octets: &mut [u8])
-    requires { (value_count ≤ length values.now) × (most_octets ≤ length octets.old) × Call.Small name values.now }
+fn put_datagram(name: usize, values: &Values, octets: &mut [u8])
+    requires { (most_octets ≤ length octets.old) × Call.Small name values.now }
     ensures { octets.new ≡ Call.octets_of name values.now octets.old }
 {
     if name == name::IQ {
-        let number = values[key::THIRD_WORD] as u32;
-        let bits = or_else(values, key::BITS, BITS) as u16;
-        let samples = or_else(values, key::SAMPLES, SAMPLES_PER_DATAGRAM) as u16;
+        let number = values.words[key::THIRD_WORD] as u32;
+        let bits = or_else(&values.keys, key::BITS, BITS) as u16;
+        let samples = or_else(&values.keys, key::SAMPLES, SAMPLES_PER_DATAGRAM) as u16;
         put_iq(octets, number, bits, samples);
         return;
     }
     if name == name::STATUS {
-        put_status(octets, values[key::THIRD_WORD] as u8);
+        put_status(octets, values.words[key::THIRD_WORD] as u8);
     }
 }
 
@@ -161,34 +153,32 @@ fn read_named(
     call: &mut [u64; 8],
     octets: &mut [u8],
     numbers: &mut [u32],
-) -> Read
+) -> Result<Read, Expected>
     requires { (at ≤ length s.now) × (name < name_count) × (most_octets ≤ length octets.old) × (most_numbers ≤ length numbers.old) }
     ensures { Call.Named name ip port call.old octets.old numbers.old
         (words (drop at s.now)) result call.new octets.new numbers.new }
 {
-    let mut values = [0u64; VALUES];
-    let given = arguments(s, at, name, &mut values, &mut *octets);
-    let unread = given.unread;
+    let mut words = [0u64; WORD_COUNT];
+    let given = arguments(s, at, name, &mut words, &mut *octets);
     let start = given.at;
-    if unread != ALL_READ {
-        return Read::Unread(expected_word(unread));
+    if let Some(kind) = given.unread {
+        return Err(expected_word(kind));
     }
-    let run = options(s, start, BUFFER, ENDS[name], &mut values, &mut *numbers);
-    let took = run.took;
-    match took {
-        Took::Unknown => return Read::Unread(Expected::End),
-        Took::Unreadable(key) => return Read::Unread(Expected::ValueOf(key)),
-        Took::Taken => {}
+    let mut keys: [Option<u64>; KEY_COUNT] = [None; KEY_COUNT];
+    let run = options(s, start, BUFFER, ENDS[name], &mut keys, &mut *numbers);
+    if let Err(untaken) = run.took {
+        return Err(untaken.expected(Expected::End));
     }
     if name == name::STATE {
-        return Read::State;
+        return Ok(Read::State);
     }
     if name == name::RADIO {
-        return Read::Radio;
+        return Ok(Read::Radio);
     }
+    let values = Values { words, keys };
     *call = call_of(name, ip, port, &values);
     put_datagram(name, &values, octets);
-    Read::Call
+    Ok(Read::Call)
 }
 
 pub(crate) fn read_line(
@@ -198,25 +188,22 @@ pub(crate) fn read_line(
     call: &mut [u64; 8],
     octets: &mut [u8; MOST_OCTETS],
     numbers: &mut [u32; MOST_NUMBERS],
-) -> Read
+) -> Result<Read, Expected>
     ensures { Call.Lent line.now ip port call.old octets.old numbers.old result
         call.new octets.new numbers.new }
 {
     if line.len() > LONGEST {
-        return Read::Unread(Expected::ShorterLine);
+        return Err(Expected::ShorterLine);
     }
     let first = begins(line);
     let text = first.text;
     let end = first.end;
-    let name = first.name;
     if first.start == end {
-        return Read::Nothing;
+        return Ok(Read::Nothing);
     }
+    let name = first.name.ok_or(Expected::Call)?;
     if name == name::OPEN {
-        return Read::Open;
-    }
-    if name >= NAME_COUNT {
-        return Read::Unread(Expected::Call);
+        return Ok(Read::Open);
     }
     let s = &line[..text];
     read_named(s, end, name, ip, port, call, octets, numbers)

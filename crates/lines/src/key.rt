@@ -1,6 +1,7 @@
-// The keys of options by name, and the places of a line's values: its words, then a value and a mark for each key.
+// The keys of options by name, and the places of the words after a call's name.
 
-// A key is its place here: the options of the calls, then the settings of `open`. A further setting is appended, and shifts nothing.
+// A key is its place here, as `place_of` finds it, and the values of a line are indexed by it: so it is a number. The options of the
+// calls come first, then the settings of `open`. A further setting is appended, and shifts nothing.
 pub const KEYS: [u8; 123] = *b"buffer waiting length bits samples \
     at receivers centres rate centre port radio board attenuation soft hard window malformed";
 
@@ -46,20 +47,12 @@ pub const MALFORMED: usize = 17;
 pub const KEY_COUNT: usize = 18;
 
 // The words after a call's name.
-pub(crate) const WORDS: usize = 0;
+pub(crate) const FIRST_WORD: usize = 0;
 
-pub(crate) const FIRST_WORD: usize = WORDS;
+pub(crate) const SECOND_WORD: usize = 1;
 
-pub(crate) const SECOND_WORD: usize = WORDS + 1;
+pub(crate) const THIRD_WORD: usize = 2;
 
-pub(crate) const THIRD_WORD: usize = WORDS + 2;
+pub(crate) const FOURTH_WORD: usize = 3;
 
-pub(crate) const FOURTH_WORD: usize = WORDS + 3;
-
-// Key k's value is at KEYS_AT + k. At MARKS + k is 1 if it was said.
-pub(crate) const KEYS_AT: usize = 4;
-
-pub(crate) const MARKS: usize = 36;
-
-// Room for 28 keys.
-pub(crate) const VALUES: usize = 64;
+pub(crate) const WORD_COUNT: usize = 4;

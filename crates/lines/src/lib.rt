@@ -26,7 +26,7 @@ pub const MOST_OCTETS: usize = 2048;
 pub const MOST_NUMBERS: usize = 8193;
 
 // What was expected, as CALLS.md's Errors has it. Open and FewerStretches are for whoever runs the calls.
-#[derive(Clone, Copy)]
+#[derive(Clone, Copy, Debug, PartialEq, Eq)]
 pub enum Expected {
     Call,
     Open,
@@ -44,18 +44,17 @@ pub enum Expected {
     FewerStretches,
 }
 
-// What a line is. Nothing has no words.
-#[derive(Clone, Copy)]
+// What a line is that can be read. Nothing has no words.
+#[derive(Clone, Copy, Debug, PartialEq, Eq)]
 pub enum Read {
     Nothing,
     Open,
     Call,
     State,
     Radio,
-    Unread(Expected),
 }
 
-// Reads a line of a session that has this address and port. A call is eight numbers (specs/Call); its datagram and its waiting
+// Reads a line of a session that has this address and port, or tells what was expected where it can't be read. A call is eight numbers (specs/Call); its datagram and its waiting
 // numbers go to the front of the lent buffers as they are read. After any other answer the eight numbers are as they were, and the
 // octets and the waiting numbers hold what was written before the reading stopped. Of an `open` nothing but its name is looked at.
 pub fn read_call(
@@ -65,7 +64,7 @@ pub fn read_call(
     call: &mut [u64; 8],
     octets: &mut [u8; MOST_OCTETS],
     numbers: &mut [u32; MOST_NUMBERS],
-) -> Read
+) -> Result<Read, Expected>
     ensures { Lent line.now radio_ip port call.old octets.old numbers.old result
         call.new octets.new numbers.new }
 {
@@ -75,7 +74,7 @@ pub fn read_call(
 // What an `open` asks for. One that can't be read has the settings of an `open` that says none.
 #[derive(Clone, Copy)]
 pub struct Opening {
-    pub read: Read,
+    pub read: Result<(), Expected>,
     // the opening reading
     pub at: u64,
     pub settings: Settings,

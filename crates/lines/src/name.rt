@@ -3,7 +3,7 @@ ghost use Rattle.lines.specs.Name.{Begins};
 
 use super::key::{BUFFER, LENGTH, SETTINGS, WAITING};
 
-// A name is its place here.
+// A name is its place here, as `place_of` finds it, and the tables below are indexed by it: so it is a number.
 pub(crate) const NAMES: [u8; 87] =
     *b"begin pass iq status datagram take close missing discontinuity stalled state radio open";
 
@@ -55,8 +55,8 @@ pub(crate) struct Beginning {
     pub(crate) text: usize,
     pub(crate) start: usize,
     pub(crate) end: usize,
-    // NAME_COUNT if the word is no name
-    pub(crate) name: usize,
+    // none if the word is no name
+    pub(crate) name: Option<usize>,
 }
 
 pub(crate) fn begins(line: &[u8]) -> Beginning

@@ -4,16 +4,16 @@ ghost use Rattle.std.specs.Float.{binary64};
 ghost use Rattle.std.specs.Float.Ieee.{of_bits};
 ghost use Rattle.text.specs.Split.{words};
 ghost use Rattle.tuning.specs.Board.{board_info};
-ghost use Rattle.lines.specs.Key.{key_count, value_count};
+ghost use Rattle.lines.specs.Key.{key_count};
 ghost use Rattle.lines.specs.Open as Open;
 
 use super::call::or_else;
-use super::key::{KEY_COUNT, SETTINGS, VALUES};
+use super::key::{KEY_COUNT, SETTINGS};
 use super::name::{OPEN, begins};
-use super::option::{OFF, ON, SKIPPED, Took, UNSAID, options};
-use super::{Expected, LONGEST, MOST_NUMBERS, Opening, Read, key};
+use super::option::{OFF, ON, SKIPPED, UNSAID, options};
+use super::{Expected, LONGEST, MOST_NUMBERS, Opening, key};
 use model::settings::{AttenuationChoice, Settings};
-use tuning::board::{BoardId, BoardInfo, board_info};
+use tuning::board::{BoardInfo, board_info};
 
 // Where they are left out: 48000 and 7000000 as doubles, and 10.0.0.2.
 const RATE: u64 = 4676829883349860352;
@@ -37,9 +37,9 @@ fn board_of(n: u64) -> BoardInfo
     ensures { result ≡ board_info (Open.board_id n) }
 {
     if n == SKIPPED {
-        return board_info(BoardId::Skipped);
+        return board_info(None);
     }
-    board_info(BoardId::Number(n as u8))
+    board_info(Some(n as u8))
 }
 
 fn choice_of(n: u64) -> AttenuationChoice
@@ -54,29 +54,29 @@ fn choice_of(n: u64) -> AttenuationChoice
     AttenuationChoice::Unsaid
 }
 
-fn double_or(values: &[u64], key: usize, other: u64) -> f64
-    requires { (key < key_count) × (value_count ≤ length values.now) }
-    ensures { result ≡ Open.double_or values.now key other }
+fn double_or(keys: &[Option<u64>], key: usize, other: u64) -> f64
+    requires { (key < key_count) × (key_count ≤ length keys.now) }
+    ensures { result ≡ Open.double_or keys.now key other }
 {
-    double_of(or_else(values, key, other))
+    double_of(or_else(keys, key, other))
 }
 
-fn settings_of(values: &[u64]) -> Settings
-    requires { (value_count ≤ length values.now) × Open.Within values.now }
-    ensures { result ≡ Open.settings_of values.now }
+fn settings_of(keys: &[Option<u64>]) -> Settings
+    requires { (key_count ≤ length keys.now) × Open.Within keys.now }
+    ensures { result ≡ Open.settings_of keys.now }
 {
-    let ddc_count = or_else(values, key::RECEIVERS, 1) as usize;
-    let center_count = or_else(values, key::CENTRES, 1) as usize;
-    let sample_rate_hz = double_or(values, key::RATE, RATE);
-    let center_freq_hz = double_or(values, key::CENTRE, CENTRE);
-    let port = or_else(values, key::PORT, 1024) as u16;
-    let radio_ip = or_else(values, key::RADIO, RADIO) as u32;
-    let board = board_of(or_else(values, key::BOARD, 1));
-    let attenuation = choice_of(or_else(values, key::ATTENUATION, UNSAID));
-    let soft_after = or_else(values, key::SOFT, 4500000000);
-    let stall_after = or_else(values, key::HARD, 10000000000);
-    let park_window = or_else(values, key::WINDOW, 8192);
-    let max_consecutive_malformed = or_else(values, key::MALFORMED, 10000) as u32;
+    let ddc_count = or_else(keys, key::RECEIVERS, 1) as usize;
+    let center_count = or_else(keys, key::CENTRES, 1) as usize;
+    let sample_rate_hz = double_or(keys, key::RATE, RATE);
+    let center_freq_hz = double_or(keys, key::CENTRE, CENTRE);
+    let port = or_else(keys, key::PORT, 1024) as u16;
+    let radio_ip = or_else(keys, key::RADIO, RADIO) as u32;
+    let board = board_of(or_else(keys, key::BOARD, 1));
+    let attenuation = choice_of(or_else(keys, key::ATTENUATION, UNSAID));
+    let soft_after = or_else(keys, key::SOFT, 4500000000);
+    let stall_after = or_else(keys, key::HARD, 10000000000);
+    let park_window = or_else(keys, key::WINDOW, 8192);
+    let max_consecutive_malformed = or_else(keys, key::MALFORMED, 10000) as u32;
     Settings {
         ddc_count,
         center_count,
@@ -96,9 +96,9 @@ fn settings_of(values: &[u64]) -> Settings
 fn unread(expected: Expected) -> Opening
     ensures { result ≡ Open.unread_opening expected }
 {
-    let none = [0u64; VALUES];
+    let none: [Option<u64>; KEY_COUNT] = [None; KEY_COUNT];
     Opening {
-        read: Read::Unread(expected),
+        read: Err(expected),
         at: 0,
         settings: settings_of(&none),
     }
@@ -109,19 +109,16 @@ fn opened(s: &[u8], at: usize) -> Opening
     requires { at ≤ length s.now }
     ensures { result ≡ Open.opened_by (words (drop at s.now)) }
 {
-    let mut values = [0u64; VALUES];
+    let mut keys: [Option<u64>; KEY_COUNT] = [None; KEY_COUNT];
     let mut numbers = [0u32; MOST_NUMBERS];
-    let run = options(s, at, SETTINGS, KEY_COUNT, &mut values, &mut numbers);
-    let took = run.took;
-    match took {
-        Took::Unknown => return unread(Expected::Setting),
-        Took::Unreadable(key) => return unread(Expected::ValueOf(key)),
-        Took::Taken => {}
+    let run = options(s, at, SETTINGS, KEY_COUNT, &mut keys, &mut numbers);
+    if let Err(untaken) = run.took {
+        return unread(untaken.expected(Expected::Setting));
     }
     Opening {
-        read: Read::Open,
-        at: or_else(&values, key::AT, 0),
-        settings: settings_of(&values),
+        read: Ok(()),
+        at: or_else(&keys, key::AT, 0),
+        settings: settings_of(&keys),
     }
 }
 
@@ -137,7 +134,10 @@ pub(crate) fn read_settings(line: &[u8]) -> Opening
     if first.start == end {
         return unread(Expected::Open);
     }
-    if first.name != OPEN {
+    let Some(name) = first.name else {
+        return unread(Expected::Open);
+    };
+    if name != OPEN {
         return unread(Expected::Open);
     }
     opened(&line[..text], end)

@@ -1,55 +1,31 @@
-// Options, key=value, each at most once, into a lent list of values.
+// Options, key=value, each at most once, into a lent list of the keys' values.
 ghost use Rattle.std.specs.Prelude.{◌≡◌, ◌≤◌, ◌<◌, length, drop};
 ghost use Rattle.text.specs.Split.{words};
 ghost use Rattle.lines.specs.Option as Option;
-ghost use Rattle.lines.specs.Key.{key_count, value_count, most_numbers};
-ghost use Rattle.lines.specs.declared.option.Took.TheVariants.{Taken};
+ghost use Rattle.lines.specs.Key.{key_count, most_numbers};
 
-use super::key::{KEY_COUNT, KEYS, KEYS_AT, MARKS};
-use super::{MOST_NUMBERS, MOST_OCTETS};
-use text::Spelt;
+use super::key::{KEY_COUNT, KEYS};
+use super::{Expected, MOST_NUMBERS, MOST_OCTETS};
 use values::address::ipv4;
 use values::reading::{double, number, reading, up_to};
 use values::waiting::waiting;
 
 // How a value is spelt.
-const NUMBER: u8 = 0;
-
-const READING: u8 = 1;
-
-const DOUBLE: u8 = 2;
-
-const ADDRESS: u8 = 3;
-
-const BOARD: u8 = 4;
-
-const ATTENUATION: u8 = 5;
-
-const WAITING: u8 = 6;
-
-const SPELLINGS: [u8; KEY_COUNT] = [
-    NUMBER,
-    WAITING,
-    NUMBER,
-    NUMBER,
-    NUMBER,
-    READING,
-    NUMBER,
-    NUMBER,
-    DOUBLE,
-    DOUBLE,
-    NUMBER,
-    ADDRESS,
-    BOARD,
-    ATTENUATION,
-    READING,
-    READING,
-    NUMBER,
-    NUMBER,
-];
+#[derive(Clone, Copy, Debug, PartialEq, Eq)]
+pub enum Spelling {
+    Number,
+    Reading,
+    Double,
+    Address,
+    Board,
+    Attenuation,
+    Waiting,
+}
 
 // The most octets of a lent packet buffer.
 const MOST_BUFFER: u64 = 8192;
+
+// The keys' values stand as numbers in one list (specs/Option), so a board and an attenuation are numbers there.
 
 // A board that discovery skipped.
 pub(crate) const SKIPPED: u64 = 256;
@@ -61,134 +37,136 @@ pub(crate) const ON: u64 = 1;
 
 pub(crate) const UNSAID: u64 = 2;
 
-// The most that each key's value can be (specs/Option).
-const LIMITS: [u64; KEY_COUNT] = [
-    MOST_BUFFER,
-    MOST_NUMBERS as u64,
-    MOST_OCTETS as u64,
-    u16::MAX as u64,
-    u16::MAX as u64,
-    u64::MAX,
-    u16::MAX as u64,
-    u16::MAX as u64,
-    u64::MAX,
-    u64::MAX,
-    u16::MAX as u64,
-    u32::MAX as u64,
-    SKIPPED,
-    UNSAID,
-    u64::MAX,
-    u64::MAX,
-    u64::MAX,
-    u32::MAX as u64,
+// How each key's value is spelt, and the most that it can be (specs/Option).
+const FORMS: [(Spelling, u64); KEY_COUNT] = [
+    (Spelling::Number, MOST_BUFFER),
+    (Spelling::Waiting, MOST_NUMBERS as u64),
+    (Spelling::Number, MOST_OCTETS as u64),
+    (Spelling::Number, u16::MAX as u64),
+    (Spelling::Number, u16::MAX as u64),
+    (Spelling::Reading, u64::MAX),
+    (Spelling::Number, u16::MAX as u64),
+    (Spelling::Number, u16::MAX as u64),
+    (Spelling::Double, u64::MAX),
+    (Spelling::Double, u64::MAX),
+    (Spelling::Number, u16::MAX as u64),
+    (Spelling::Address, u32::MAX as u64),
+    (Spelling::Board, SKIPPED),
+    (Spelling::Attenuation, UNSAID),
+    (Spelling::Reading, u64::MAX),
+    (Spelling::Reading, u64::MAX),
+    (Spelling::Number, u64::MAX),
+    (Spelling::Number, u32::MAX as u64),
 ];
 
-// What a word comes to: a key's place goes with a value that can't be read.
-#[derive(Clone, Copy)]
-pub enum Took {
-    Taken,
+// Why a word is not taken: a key's place goes with a value that can't be read.
+#[derive(Clone, Copy, Debug, PartialEq, Eq)]
+pub enum Untaken {
     Unknown,
     Unreadable(u8),
 }
 
-fn board(w: &[u8]) -> Spelt
+impl Untaken {
+    // What was expected of the word, where `other` is expected in place of an unknown one.
+    pub(crate) fn expected(self, other: Expected) -> Expected
+        ensures { result ≡ Option.expected_of self other }
+    {
+        match self {
+            Untaken::Unknown => other,
+            Untaken::Unreadable(key) => Expected::ValueOf(key),
+        }
+    }
+}
+
+fn board(w: &[u8]) -> Option<u64>
     ensures { result ≡ Option.board w.now }
 {
-    if check::same(w, b"skipped") {
-        return Spelt::Number(SKIPPED);
+    if w == b"skipped".as_slice() {
+        return Some(SKIPPED);
     }
     number(w, 255)
 }
 
-fn attenuation(w: &[u8]) -> Spelt
+fn attenuation(w: &[u8]) -> Option<u64>
     ensures { result ≡ Option.attenuation w.now }
 {
-    let place = text::place_of(w, b"off on unsaid");
-    up_to(Spelt::Number(place as u64), UNSAID)
+    let place = text::place_of(w, b"off on unsaid")?;
+    Some(place as u64)
 }
 
-fn spelt_as(how: u8, w: &[u8], numbers: &mut [u32]) -> Spelt
+fn spelt_as(how: Spelling, w: &[u8], numbers: &mut [u32]) -> Option<u64>
     requires { most_numbers ≤ length numbers.old }
     ensures { (result ≡ Option.spelt_as how w.now) ×
         (numbers.new ≡ Option.numbers_seen_as how w.now numbers.old) }
 {
-    if how == READING {
-        return reading(w);
+    match how {
+        Spelling::Number => text::digits(w, 10),
+        Spelling::Reading => reading(w),
+        Spelling::Double => double(w),
+        Spelling::Address => ipv4(w),
+        Spelling::Board => board(w),
+        Spelling::Attenuation => attenuation(w),
+        Spelling::Waiting => waiting(w, numbers),
     }
-    if how == DOUBLE {
-        return double(w);
-    }
-    if how == ADDRESS {
-        return ipv4(w);
-    }
-    if how == BOARD {
-        return board(w);
-    }
-    if how == ATTENUATION {
-        return attenuation(w);
-    }
-    if how == WAITING {
-        return waiting(w, numbers);
-    }
-    text::digits(w, 10)
 }
 
-fn value(key: usize, w: &[u8], numbers: &mut [u32]) -> Spelt
+fn value(key: usize, w: &[u8], numbers: &mut [u32]) -> Option<u64>
     requires { (key < key_count) × (most_numbers ≤ length numbers.old) }
     ensures { (result ≡ Option.value_of key w.now) ×
         (numbers.new ≡ Option.numbers_seen_for key w.now numbers.old) }
 {
-    let how = SPELLINGS[key];
-    let most = LIMITS[key];
+    let (how, most) = FORMS[key];
     up_to(spelt_as(how, w, numbers), most)
 }
 
-fn take_option(w: &[u8], from: usize, to: usize, values: &mut [u64], numbers: &mut [u32]) -> Took
-    requires { (to ≤ key_count) × (value_count ≤ length values.old) × (most_numbers ≤ length numbers.old) }
+fn take_option(
+    w: &[u8],
+    from: usize,
+    to: usize,
+    values: &mut [Option<u64>],
+    numbers: &mut [u32],
+) -> Result<(), Untaken>
+    requires { (to ≤ key_count) × (key_count ≤ length values.old) × (most_numbers ≤ length numbers.old) }
     ensures { Option.Stepped from to values.old numbers.old w.now result values.new
         numbers.new }
 {
     let equals = text::find(w, b'=');
     if w.len() <= equals {
-        return Took::Unknown;
+        return Err(Untaken::Unknown);
     }
-    let key = text::place_of(&w[..equals], &KEYS);
+    let key = text::place_of(&w[..equals], &KEYS).ok_or(Untaken::Unknown)?;
     if key < from {
-        return Took::Unknown;
+        return Err(Untaken::Unknown);
     }
     if to <= key {
-        return Took::Unknown;
+        return Err(Untaken::Unknown);
     }
-    let mark = MARKS + key;
-    if values[mark] == 1 {
-        return Took::Unknown;
+    if values[key].is_some() {
+        return Err(Untaken::Unknown);
     }
     let start = equals + 1;
-    let Spelt::Number(v) = value(key, &w[start..], numbers) else {
-        return Took::Unreadable(key as u8);
-    };
-    values[KEYS_AT + key] = v;
-    values[mark] = 1;
-    Took::Taken
+    let v = value(key, &w[start..], numbers).ok_or(Untaken::Unreadable(key as u8))?;
+    values[key] = Some(v);
+    Ok(())
 }
 
 // A run of words: what it came to, and where it stopped.
 #[derive(Clone, Copy)]
 pub(crate) struct Run {
-    pub(crate) took: Took,
+    pub(crate) took: Result<(), Untaken>,
     pub(crate) at: usize,
 }
 
-// The words of s from `start` on.
+// The words of s from `start` on. It goes by their places, since where a run stops is told, and `split` gives no places.
 pub(crate) fn options(
     s: &[u8],
     start: usize,
     from: usize,
     to: usize,
-    values: &mut [u64],
+    values: &mut [Option<u64>],
     numbers: &mut [u32],
 ) -> Run
-    requires { (start ≤ length s.now) × (to ≤ key_count) × (value_count ≤ length values.old) × (most_numbers ≤ length numbers.old) }
+    requires { (start ≤ length s.now) × (to ≤ key_count) × (key_count ≤ length values.old) × (most_numbers ≤ length numbers.old) }
     ensures { Option.Ran from to values.old numbers.old (words (drop start s.now)) result.took
         values.new numbers.new × Option.Stopped from to s.now values.old
         (words (drop start s.now)) result.at }
@@ -199,26 +177,12 @@ pub(crate) fn options(
         let from_word = word.start;
         let end = word.end;
         if from_word == end {
-            return Run {
-                took: Took::Taken,
-                at,
-            };
+            return Run { took: Ok(()), at };
         }
         let took = take_option(&s[from_word..end], from, to, &mut *values, &mut *numbers);
-        match took {
-            Took::Taken => at = end,
-            Took::Unknown => {
-                return Run {
-                    took: Took::Unknown,
-                    at,
-                };
-            }
-            Took::Unreadable(key) => {
-                return Run {
-                    took: Took::Unreadable(key),
-                    at,
-                };
-            }
+        if took.is_err() {
+            return Run { took, at };
         }
+        at = end;
     }
 }

@@ -4,9 +4,9 @@ ghost use Rattle.text.specs.Split.{words};
 ghost use Rattle.lines.specs.Name.{name_count};
 ghost use Rattle.lines.specs.Found as Found;
 
-use super::argument::{ALL_READ, arguments};
-use super::key::{BUFFER, KEY_COUNT, SETTINGS, VALUES};
-use super::name::{ENDS, NAME_COUNT, OPEN, begins};
+use super::argument::arguments;
+use super::key::{BUFFER, KEY_COUNT, SETTINGS, WORD_COUNT};
+use super::name::{ENDS, OPEN, begins};
 use super::option::options;
 use super::{MOST_NUMBERS, MOST_OCTETS};
 use text::Word;
@@ -17,20 +17,20 @@ fn stop(s: &[u8], at: usize, name: usize) -> usize
     ensures { (result ≤ length s.now) ×
         (words (drop result s.now) ≡ Found.rest_named name (words (drop at s.now))) }
 {
-    let mut values = [0u64; VALUES];
+    let mut keys: [Option<u64>; KEY_COUNT] = [None; KEY_COUNT];
     let mut numbers = [0u32; MOST_NUMBERS];
     if name == OPEN {
-        let settings = options(s, at, SETTINGS, KEY_COUNT, &mut values, &mut numbers);
+        let settings = options(s, at, SETTINGS, KEY_COUNT, &mut keys, &mut numbers);
         return settings.at;
     }
     let mut octets = [0u8; MOST_OCTETS];
-    let given = arguments(s, at, name, &mut values, &mut octets);
-    let unread = given.unread;
+    let mut words_said = [0u64; WORD_COUNT];
+    let given = arguments(s, at, name, &mut words_said, &mut octets);
     let start = given.at;
-    if unread != ALL_READ {
+    if given.unread.is_some() {
         return start;
     }
-    let run = options(s, start, BUFFER, ENDS[name], &mut values, &mut numbers);
+    let run = options(s, start, BUFFER, ENDS[name], &mut keys, &mut numbers);
     run.at
 }
 
@@ -41,13 +41,12 @@ pub(crate) fn found_in(line: &[u8]) -> Word
     let text = first.text;
     let start = first.start;
     let end = first.end;
-    let name = first.name;
     if start == end {
         return Word { start, end };
     }
-    if name >= NAME_COUNT {
+    let Some(name) = first.name else {
         return Word { start, end };
-    }
+    };
     let s = &line[..text];
     text::word_at(s, stop(s, end, name))
 }

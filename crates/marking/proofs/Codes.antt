@@ -1,4 +1,5 @@
 -- What an answer's code says, and what the code makes of it. Assumes nothing.
+use Rattle.std.specs.Prelude.{Option, Some, None}
 use Prim.Native.Nat.{ℕ, ◌≤◌, ◌<◌}
 use mathlib.Core.Path.{◌≡◌, refl, sym, ap, ◌∙◌}
 use mathlib.Core.Logic.{◌≢◌}
@@ -19,43 +20,42 @@ use Rattle.tally.specs.declared.account.Account.{Account}
 use Rattle.tally.specs.declared.account.Noted.{Noted}
 use Rattle.marking.specs.Records.{heard_as}
 use Rattle.marking.specs.Noting.{said_of, SaidBy, noted_by, table_noted, handed_by, heard_in, note_of, table_of}
-use Rattle.marking.specs.declared.note.Said.{Said}
 
 -- ---- what is said
 
-pub said-gap : (c : ℕ) → 19 ≤ c → SaidBy c (Said.Event Gap)
+pub said-gap : (c : ℕ) → 19 ≤ c → SaidBy c (Some Gap)
 said-gap c h =
     record {
       says = λ v.
-          answer-cases (λ a. Said.Event Gap ≡ said_of a) c v (λ e. absurd (omega arith)) (λ l w. absurd (omega arith)) (λ e. absurd (omega arith)) (λ e. absurd (omega arith))
+          answer-cases (λ a. Some Gap ≡ said_of a) c v (λ e. absurd (omega arith)) (λ l w. absurd (omega arith)) (λ e. absurd (omega arith)) (λ e. absurd (omega arith))
           (λ e. absurd (omega arith)) (λ e. absurd (omega arith)) (λ e. absurd (omega arith)) (λ e. absurd (omega arith)) (λ e. absurd (omega arith)) (λ e. absurd (omega arith))
           (λ l. refl);
     }
 
-pub said-in-order : (c : ℕ) → c ≡ 11 → SaidBy c (Said.Event InOrder)
+pub said-in-order : (c : ℕ) → c ≡ 11 → SaidBy c (Some InOrder)
 unfolding pick
 said-in-order c e = record { says = λ v. rw e refl }
 
-pub said-stale : (c : ℕ) → c ≡ 12 → SaidBy c (Said.Event Stale)
+pub said-stale : (c : ℕ) → c ≡ 12 → SaidBy c (Some Stale)
 unfolding pick
 said-stale c e = record { says = λ v. rw e refl }
 
-pub said-restart : (c : ℕ) → c ≡ 13 → SaidBy c (Said.Event Restart)
+pub said-restart : (c : ℕ) → c ≡ 13 → SaidBy c (Some Restart)
 unfolding pick
 said-restart c e = record { says = λ v. rw e refl }
 
-pub said-rest : (c : ℕ) → c < 19 → c ≢ 11 → c ≢ 12 → c ≢ 13 → SaidBy c Said.Nothing
+pub said-rest : (c : ℕ) → c < 19 → c ≢ 11 → c ≢ 12 → c ≢ 13 → SaidBy c None
 said-rest c h a b d =
     record {
       says = λ v.
-          answer-cases (λ x. Said.Nothing ≡ said_of x) c v (λ e. refl) (λ l w. refl) (λ e. absurd (a e)) (λ e. absurd (b e)) (λ e. absurd (d e)) (λ e. refl) (λ e. refl) (λ e. refl)
+          answer-cases (λ x. None ≡ said_of x) c v (λ e. refl) (λ l w. refl) (λ e. absurd (a e)) (λ e. absurd (b e)) (λ e. absurd (d e)) (λ e. refl) (λ e. refl) (λ e. refl)
           (λ e. refl) (λ e. refl) (λ l. absurd (omega arith));
     }
 
 -- the record of an arrival that is told this
-abbrev pub record_said : ℕ → ℕ → ℕ → Said → List Record
-record_said reading number value Said.Nothing = []
-record_said reading number value (Said.Event e) = record { reading = reading; number = number; event = e; missing = value } ∷ []
+abbrev pub record_said : ℕ → ℕ → ℕ → Option Event → List Record
+record_said reading number value None = []
+record_said reading number value (Some e) = record { reading = reading; number = number; event = e; missing = value } ∷ []
 
 heard-said : (reading number c v : ℕ) → heard_as reading number (answer_of c v) ≡ record_said reading number v (said_of (answer_of c v))
 heard-said reading number c v =
@@ -65,12 +65,12 @@ heard-said reading number c v =
 -- ---- what is made of it
 
 module _ (t : List ℕ) (a : Account) (reading number c v : ℕ) where
-  pub nothing_said : Said.Nothing ≡ said_of (answer_of c v) → (r : Noted) → r ≡ fitting a
+  pub nothing_said : None ≡ said_of (answer_of c v) → (r : Noted) → r ≡ fitting a
       → (r ≡ noted_by a (heard_as reading number (answer_of c v))) × (t ≡ table_noted t a (heard_as reading number (answer_of c v)))
   nothing_said e r h = let z = heard-said reading number c v ∙ ap (record_said reading number v) (sym e) in (rw z h, rw z refl)
 
-  pub event-said : (w : Event) → Said.Event w ≡ said_of (answer_of c v) → (r : Noted) (t' : List ℕ)
-      → (r ≡ noted_by a (record_said reading number v (Said.Event w))) × (t' ≡ table_noted t a (record_said reading number v (Said.Event w)))
+  pub event-said : (w : Event) → Some w ≡ said_of (answer_of c v) → (r : Noted) (t' : List ℕ)
+      → (r ≡ noted_by a (record_said reading number v (Some w))) × (t' ≡ table_noted t a (record_said reading number v (Some w)))
       → (r ≡ noted_by a (heard_as reading number (answer_of c v))) × (t' ≡ table_noted t a (heard_as reading number (answer_of c v)))
   event-said w e r t' h = let z = heard-said reading number c v ∙ ap (record_said reading number v) (sym e) in (rw z h.0, rw z h.1)
 

@@ -1,9 +1,9 @@
 -- In each stretch that is told of at most 2^25 calls, samples and missing add up. Assumes nothing.
+use Rattle.std.specs.Prelude.{Some, None}
 use Prim.Native.Nat.{ℕ, ◌+◌, ◌-◌, ◌*◌, ◌%◌, ◌≤◌, ◌<◌, ◌^◌}
 use mathlib.Core.Path.{◌≡◌, refl, sym, ap, subst, ◌∙◌}
 use mathlib.Core.Bool.{Bool, true, false, cond}
 use mathlib.Core.List.{List, [], ◌∷◌, ◌++◌, map}
-use mathlib.Core.Option.{some, none}
 use lib.ListN.{length}
 use lib.IntN.{ℤ, pos, ◌+ℤ◌, ◌-ℤ◌, ◌*ℤ◌, +ℤ_idr}
 use native.Mathlib.Omega.{arith}
@@ -56,7 +56,7 @@ module _ (s : Settings) where
     risen : (k : ℕ) → x.number ≡ h +ℤ pos (k + 1) → k < 2 ^ 31 → late_entry x ≡ false → Within n x.number (accepted_in (cut xs).front) → Within (n + 1) h (accepted_in (x ∷ (cut xs).front))
     risen k up near l w = rw l (let e = rises_by h x.number k (accepted_in (cut xs).front) up in omega (arith, e, near, w))
 
-    one : (v : SeqEvent) → x.says.event ≡ some v → x.book.expected ≡ some (h +ℤ pos 1) → Lies x → Fact s x → Says (x.number -ℤ (h +ℤ pos 1)) v (fitting s x) (late_entry x)
+    one : (v : SeqEvent) → x.says.event ≡ Some v → x.book.expected ≡ Some (h +ℤ pos 1) → Lies x → Fact s x → Says (x.number -ℤ (h +ℤ pos 1)) v (fitting s x) (late_entry x)
         → (late_entry x ≡ false → Bounds n x.number (cut xs)) → (late_entry x ≡ true → Bounds n h (cut xs)) → Bound
     one InOrder ev e lies f y a b =
         let r = a y.2 in
@@ -77,7 +77,7 @@ module _ (s : Settings) where
         by-test true (ap is_restart ev)
         (record { front = omega (arith, stays h); spans = (omega (arith, r.front), each-wider n (n + 1) (cut xs).spans (omega arith) r.spans) })
 
-  bounded : (h : ℤ) (xs : List Entry) → Chain s (some (h +ℤ pos 1)) xs → Each Lies xs → Bounds (length xs) h (cut xs)
+  bounded : (h : ℤ) (xs : List Entry) → Chain s (Some (h +ℤ pos 1)) xs → Each Lies xs → Bounds (length xs) h (cut xs)
   bounded h [] k l = record { front = omega (arith, stays h); spans = tt }
   bounded h (x ∷ xs) k l =
       subst (λ (n : ℕ). Bounds n h (cut (x ∷ xs))) (omega arith)
@@ -85,7 +85,7 @@ module _ (s : Settings) where
       (λ late. bounded x.number xs (after-accepted s x xs late k.2) l.1)
       (λ late. bounded h xs (after-stale s h x xs k.0 late k.2) l.1))
 
-  pub spans-bounded : (xs : List Entry) → Chain s none xs → Each Lies xs → Each (Spanned (length xs)) (spans_of xs)
+  pub spans-bounded : (xs : List Entry) → Chain s None xs → Each Lies xs → Each (Spanned (length xs)) (spans_of xs)
   spans-bounded [] k l = tt
   spans-bounded (x ∷ xs) k l =
       let r = bounded x.number xs (after-accepted s x xs (first-in x k.0) k.2) l.1 in

@@ -1,9 +1,9 @@
 -- The stretches that are told are demand 3's, where every answer is the book's. Assumes nothing.
+use Rattle.std.specs.Prelude.{Option, Some, None}
 use Prim.Native.Nat.{ℕ, ◌*◌, ◌%◌, ◌<◌, ◌^◌}
 use mathlib.Core.Path.{◌≡◌, refl, sym, ap, subst, ◌∙◌}
 use mathlib.Core.Bool.{Bool, true, false, cond}
 use mathlib.Core.List.{List, [], ◌∷◌, ◌++◌, map}
-use mathlib.Core.Option.{Option, some, none}
 use lib.ListN.{length}
 use lib.IntN.{ℤ, pos, negsuc, ◌+ℤ◌, ◌-ℤ◌}
 use native.Mathlib.Nat.{zero-add}
@@ -59,7 +59,7 @@ told-first x xs =
     stretch-as _ _ (length (samples_of (x ∷ accepted_in xs)) % 2 ^ 64) (missing_told xs % 2 ^ 64) (ap (λ (i : ℕ). i % 2 ^ 64) n) (ap (λ (i : ℕ). i % 2 ^ 64) (sym (zero-add (missing_told xs)))) refl
 
 -- a stale one misses nothing
-stale-misses : (o : Option ℤ) (f : Bool) (r : ℕ) (e n : ℤ) → o ≡ some e → f ≡ true → 0 < behind (n -ℤ e) → missing_in o f r n ≡ 0
+stale-misses : (o : Option ℤ) (f : Bool) (r : ℕ) (e n : ℤ) → o ≡ Some e → f ≡ true → 0 < behind (n -ℤ e) → missing_in o f r n ≡ 0
 stale-misses o f r e n eo ef below = rw (eo, ef) (nothing_above (n -ℤ e) below)
   where
     nothing_above : (d : ℤ) → 0 < behind d → per_datagram * ahead d ≡ 0
@@ -67,7 +67,7 @@ stale-misses o f r e n eo ef below = rw (eo, ef) (nothing_above (n -ℤ e) below
     nothing_above (negsuc d) h = omega arith
 
 -- one that lies as the demand says is less than 2^31 above e
-pub near-above : (h : ℤ) (x : Entry) (k : ℕ) → x.book.expected ≡ some (h +ℤ pos 1) → Lies x → x.number -ℤ (h +ℤ pos 1) ≡ pos k → k < 2 ^ 31
+pub near-above : (h : ℤ) (x : Entry) (k : ℕ) → x.book.expected ≡ Some (h +ℤ pos 1) → Lies x → x.number -ℤ (h +ℤ pos 1) ≡ pos k → k < 2 ^ 31
 near-above h x k e lies d =
     let n : Near (h +ℤ pos 1) x.number = subst (λ (o : Option ℤ). NearIn o x.number) e lies.1 in
     let z = ap ahead d in
@@ -77,7 +77,7 @@ module _ (s : Settings) where
   -- ---- arrivals that are told as the book says, each after the one before
 
   pub record Fact (x : Entry) : Type 0 where
-    pub event : x.says.event ≡ some (verdict_of s x)
+    pub event : x.says.event ≡ Some (verdict_of s x)
     pub gone : x.says.missing ≡ missing s x.book x.incoming x.number
 
   abbrev pub Chain : Option ℤ → List Entry → Type 0
@@ -101,18 +101,18 @@ module _ (s : Settings) where
   abbrev Claim : Stretch → ℤ → List Entry → Type 0
   Claim st h xs = noted_all (st ∷ []) (map record_in xs) ≡ onward st h (cut xs).front ∷ map told_of (cut xs).spans
 
-  module _ (st : Stretch) (h : ℤ) (x : Entry) (xs : List Entry) (c : Counts st h) (e : x.book.expected ≡ some (h +ℤ pos 1)) (f : Fact x) (lies : Lies x) where
+  module _ (st : Stretch) (h : ℤ) (x : Entry) (xs : List Entry) (c : Counts st h) (e : x.book.expected ≡ Some (h +ℤ pos 1)) (f : Fact x) (lies : Lies x) where
     abbrev rest : List Record
     rest = map record_in xs
 
     abbrev shown : Cut → List Stretch
     shown u = onward st h u.front ∷ map told_of u.spans
 
-    goes : (v : SeqEvent) → x.says.event ≡ some v → noted_all (st ∷ []) (map record_in (x ∷ xs)) ≡ noted_all (after (event_of v) st (record_in x)) rest
+    goes : (v : SeqEvent) → x.says.event ≡ Some v → noted_all (st ∷ []) (map record_in (x ∷ xs)) ≡ noted_all (after (event_of v) st (record_in x)) rest
     goes v ev = ap (λ (o : Option SeqEvent). noted_all (after (event_in o) st (record_in x)) rest) ev
 
     -- in order, or a gap
-    accepted : (v : SeqEvent) (k : ℕ) → x.says.event ≡ some v → is_restart (some v) ≡ false → after (event_of v) st (record_in x) ≡ more_of st (record_in x) ∷ []
+    accepted : (v : SeqEvent) (k : ℕ) → x.says.event ≡ Some v → is_restart (Some v) ≡ false → after (event_of v) st (record_in x) ≡ more_of st (record_in x) ∷ []
         → x.number -ℤ (h +ℤ pos 1) ≡ pos k → late_entry x ≡ false
         → ((t : Stretch) → Counts t x.number → late_entry x ≡ false → Claim t x.number xs) → Claim st h (x ∷ xs)
     accepted v k ev nr ar d l on =
@@ -124,7 +124,7 @@ module _ (s : Settings) where
         ∙ ap (λ (t : Stretch). t ∷ map told_of (cut xs).spans) (onward-more st h x k c up near lies.0 (cut xs).front l)
         ∙ ap shown (sym (cond-false (is_restart x.says.event) (broken x (cut xs)) (unbroken x (cut xs)) (ap is_restart ev ∙ nr)))
 
-    one : (v : SeqEvent) → x.says.event ≡ some v → Says (x.number -ℤ (h +ℤ pos 1)) v (fitting s x) (late_entry x)
+    one : (v : SeqEvent) → x.says.event ≡ Some v → Says (x.number -ℤ (h +ℤ pos 1)) v (fitting s x) (late_entry x)
         → ((t : Stretch) → Counts t x.number → late_entry x ≡ false → Claim t x.number xs) → (late_entry x ≡ true → Claim st h xs) → Claim st h (x ∷ xs)
     one InOrder ev y on same = accepted InOrder 0 ev refl refl y.0 y.2 on
     one (Gap k) ev y on same = accepted (Gap k) k ev refl refl y.0.0 y.2 on
@@ -142,14 +142,14 @@ module _ (s : Settings) where
         ∙ ap (λ (t : Stretch). onward st h [] ∷ t ∷ map told_of (cut xs).spans) (sym (told-first x (cut xs).front))
         ∙ ap shown (sym (cond-true (is_restart x.says.event) (broken x (cut xs)) (unbroken x (cut xs)) (ap is_restart ev)))
 
-  pub after-accepted : (x : Entry) (xs : List Entry) → late_entry x ≡ false → Chain (next_of s x) xs → Chain (some (x.number +ℤ pos 1)) xs
-  after-accepted x xs l k = subst (λ (b : Bool). Chain (cond b x.book.expected (some (x.number +ℤ pos 1))) xs) l k
+  pub after-accepted : (x : Entry) (xs : List Entry) → late_entry x ≡ false → Chain (next_of s x) xs → Chain (Some (x.number +ℤ pos 1)) xs
+  after-accepted x xs l k = subst (λ (b : Bool). Chain (cond b x.book.expected (Some (x.number +ℤ pos 1))) xs) l k
 
-  pub after-stale : (h : ℤ) (x : Entry) (xs : List Entry) → x.book.expected ≡ some (h +ℤ pos 1) → late_entry x ≡ true → Chain (next_of s x) xs → Chain (some (h +ℤ pos 1)) xs
+  pub after-stale : (h : ℤ) (x : Entry) (xs : List Entry) → x.book.expected ≡ Some (h +ℤ pos 1) → late_entry x ≡ true → Chain (next_of s x) xs → Chain (Some (h +ℤ pos 1)) xs
   after-stale h x xs e l k =
-      subst (λ (o : Option ℤ). Chain o xs) e (subst (λ (b : Bool). Chain (cond b x.book.expected (some (x.number +ℤ pos 1))) xs) l k)
+      subst (λ (o : Option ℤ). Chain o xs) e (subst (λ (b : Bool). Chain (cond b x.book.expected (Some (x.number +ℤ pos 1))) xs) l k)
 
-  told-on : (st : Stretch) (h : ℤ) (xs : List Entry) → Counts st h → Chain (some (h +ℤ pos 1)) xs → Each Lies xs → Claim st h xs
+  told-on : (st : Stretch) (h : ℤ) (xs : List Entry) → Counts st h → Chain (Some (h +ℤ pos 1)) xs → Each Lies xs → Claim st h xs
   told-on st h [] c k l = ap (λ (t : Stretch). t ∷ []) (sym (onward-none st h c))
   told-on st h (x ∷ xs) c k l =
       one st h x xs c k.0 k.1 l.0 (verdict_of s x) k.1.event (says_at s h x k.0)
@@ -157,7 +157,7 @@ module _ (s : Settings) where
       (λ late. told-on st h xs c (after-stale h x xs k.0 late k.2) l.1)
 
   -- from the first arrival on
-  pub stretches-are : (xs : List Entry) → Chain none xs → Each Lies xs → noted_all [] (map record_in xs) ≡ map told_of (spans_of xs)
+  pub stretches-are : (xs : List Entry) → Chain None xs → Each Lies xs → noted_all [] (map record_in xs) ≡ map told_of (spans_of xs)
   stretches-are [] k l = refl
   stretches-are (x ∷ xs) k l =
       told-on (first_of (record_in x)) x.number xs (counts-first x l.0.0) (after-accepted x xs (first-in x k.0) k.2) l.1

@@ -1,10 +1,10 @@
 -- A list of arrivals is cut where demand 3's stretches begin, and each of these is one of its stretches. Assumes nothing.
+use Rattle.std.specs.Prelude.{Option, Some, None}
 use Prim.Native.Nat.{ℕ}
 use mathlib.Core.Path.{◌≡◌, refl, sym, ap, subst, ◌∙◌}
 use mathlib.Core.Logic.{◌≢◌, inl, inr}
 use mathlib.Core.Bool.{Bool, true, false, cond}
 use mathlib.Core.List.{List, [], ◌∷◌, ◌++◌, append_assoc}
-use mathlib.Core.Option.{Option, some, none}
 use native.Mathlib.Omega.{arith}
 use Rattle.base.specs.Each.{Each}
 use Rattle.sequence.specs.declared.SeqEvent.{SeqEvent}
@@ -13,22 +13,22 @@ use Rattle.account.specs.Ledger.{Entry}
 use Rattle.account.specs.Demand3.{Stretch, Sums}
 use Rattle.marking.specs.Spans.{Span, is_restart, Cut, broken, unbroken, cut, spans_of, arrivals_in, Steady, Begun, Splits}
 
-restarted : (o : Option SeqEvent) → is_restart o ≡ true → o ≡ some Restart
-restarted none h = let z : ◌≡◌ {A = ℕ} 0 1 = cc in absurd (omega arith)
-restarted (some InOrder) h = let z : ◌≡◌ {A = ℕ} 0 1 = cc in absurd (omega arith)
-restarted (some (Gap k)) h = let z : ◌≡◌ {A = ℕ} 0 1 = cc in absurd (omega arith)
-restarted (some Stale) h = let z : ◌≡◌ {A = ℕ} 0 1 = cc in absurd (omega arith)
-restarted (some Restart) h = refl
+restarted : (o : Option SeqEvent) → is_restart o ≡ true → o ≡ Some Restart
+restarted None h = let z : ◌≡◌ {A = ℕ} 0 1 = cc in absurd (omega arith)
+restarted (Some InOrder) h = let z : ◌≡◌ {A = ℕ} 0 1 = cc in absurd (omega arith)
+restarted (Some (Gap k)) h = let z : ◌≡◌ {A = ℕ} 0 1 = cc in absurd (omega arith)
+restarted (Some Stale) h = let z : ◌≡◌ {A = ℕ} 0 1 = cc in absurd (omega arith)
+restarted (Some Restart) h = refl
 
-going : (o : Option SeqEvent) → is_restart o ≡ false → o ≢ some Restart
-going o h e = let z : ◌≡◌ {A = ℕ} 0 1 = let k : is_restart (some Restart) ≡ false = subst (λ (p : Option SeqEvent). is_restart p ≡ false) e h in cc in absurd (omega arith)
+going : (o : Option SeqEvent) → is_restart o ≡ false → o ≢ Some Restart
+going o h e = let z : ◌≡◌ {A = ℕ} 0 1 = let k : is_restart (Some Restart) ≡ false = subst (λ (p : Option SeqEvent). is_restart p ≡ false) e h in cc in absurd (omega arith)
 
 -- of a list that is cut: nothing is lost, the stretches are begun by Restart, and none is told within one
 pub record Right (u : Cut) (xs : List Entry) : Type 0 where
   pub all : u.front ++ arrivals_in u.spans ≡ xs
-  pub begun : Each (λ q. q.first.says.event ≡ some Restart) u.spans
+  pub begun : Each (λ q. q.first.says.event ≡ Some Restart) u.spans
   pub steady : Each Steady u.spans
-  pub goes : Each (λ y. y.says.event ≢ some Restart) u.front
+  pub goes : Each (λ y. y.says.event ≢ Some Restart) u.front
 
 step : (x : Entry) (xs : List Entry) (u : Cut) (b : Bool) → is_restart x.says.event ≡ b → Right u xs
     → Right (cond b (broken x u) (unbroken x u)) (x ∷ xs)
@@ -55,7 +55,7 @@ splits (x ∷ xs) =
 -- ---- each is one of demand 3's
 
 module _ (entries : List Entry) (sums : (before : List Entry) (x : Entry) (xs past : List Entry) → Stretch entries before x xs past → Sums x xs) where
-  later : (before : List Entry) (ps : List Span) → entries ≡ before ++ arrivals_in ps → Each (λ q. q.first.says.event ≡ some Restart) ps → Each Steady ps
+  later : (before : List Entry) (ps : List Span) → entries ≡ before ++ arrivals_in ps → Each (λ q. q.first.says.event ≡ Some Restart) ps → Each Steady ps
       → Each (λ q. Sums q.first q.others) ps
   later before [] e b u = tt
   later before (p ∷ ps) e b u = (

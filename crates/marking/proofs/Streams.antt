@@ -1,9 +1,9 @@
 -- The records of a list of calls are its arrivals, as demand 3's book has them. Assumes nothing.
+use Rattle.std.specs.Prelude.{Option, Some, None}
 use Prim.Native.Nat.{ℕ}
 use mathlib.Core.Path.{◌≡◌, refl, sym, ap, ◌∙◌}
 use mathlib.Core.Bool.{Bool, true, false}
 use mathlib.Core.List.{List, [], ◌∷◌, ◌++◌, map}
-use mathlib.Core.Option.{Option, some, none}
 use lib.ListN.{length}
 use lib.IntN.{ℤ}
 use native.Mathlib.Omega.{arith}
@@ -58,8 +58,8 @@ routed-number radio base (V4 ip port) b count =
 
 -- the event of an entry, in a record's words
 abbrev pub event_in : Option SeqEvent → Event
-event_in none = InOrder
-event_in (some e) = event_of e
+event_in None = InOrder
+event_in (Some e) = event_of e
 
 abbrev pub record_in : Entry → Record
 record_in x = record { reading = x.incoming.now; number = x.count; event = event_in x.says.event; missing = x.says.missing }
@@ -69,7 +69,7 @@ module _ (s : Settings) (b : Book) (n : ℤ) where
   Recorded w a rs = Exact s b w n a → rs ≡ map record_in (entry b w n a)
 
   -- an answer that tells no event
-  none_told : (i : Incoming) (p : Routed) (a : Tells) → a.event ≡ none → Recorded (brought i p) a []
+  none_told : (i : Incoming) (p : Routed) (a : Tells) → a.event ≡ None → Recorded (brought i p) a []
   none_told i (iq count) a e x = let z : ◌≡◌ {A = ℕ} 0 1 = let h = sym e ∙ x.0 in cc in absurd (omega arith)
   none_told i status a e x = refl
   none_told i ignored a e x = refl

@@ -1,10 +1,10 @@
 -- The account of a list of calls is demand 3's: for all accepted settings, opening readings, lists of calls and numberings. Assumes
 -- nothing.
+use Rattle.std.specs.Prelude.{Option, Some, None}
 use Prim.Native.Nat.{ℕ, ◌+◌, ◌%◌, ◌<◌, ◌^◌}
 use mathlib.Core.Path.{◌≡◌, refl, sym, ap, subst, ◌∙◌}
 use mathlib.Core.Bool.{Bool, true, false, cond}
 use mathlib.Core.List.{List, [], ◌∷◌, ◌++◌, map}
-use mathlib.Core.Option.{Option, some, none}
 use lib.ListN.{length, length-append}
 use lib.Dec.{T}
 use lib.Ieee.{Float}
@@ -62,24 +62,24 @@ each_counts (x ∷ xs) l = (l.0.0, each_counts xs l.1)
 -- ---- the first arrival of each stretch is accepted
 
 module _ (s : Settings) where
-  not_late : (x : Entry) → Fact s x → x.says.event ≡ some Restart → late_entry x ≡ false
+  not_late : (x : Entry) → Fact s x → x.says.event ≡ Some Restart → late_entry x ≡ false
   not_late x f e =
       let v : verdict_of s x ≡ Restart = cc (f.event, e) in
       (subst (λ (w : SeqEvent). Rules w (fitting s x) (late_entry x)) v (rules x.book.expected (limit_in s x.book x.incoming.now) x.book.run x.number)).1
 
-  each-not-late : (xs : List Entry) (o : Option ℤ) → Chain s o xs → Each (λ (x : Entry). x.says.event ≡ some Restart → late_entry x ≡ false) xs
+  each-not-late : (xs : List Entry) (o : Option ℤ) → Chain s o xs → Each (λ (x : Entry). x.says.event ≡ Some Restart → late_entry x ≡ false) xs
   each-not-late [] o k = tt
   each-not-late (x ∷ xs) o k = (not_late x k.1, each-not-late xs (next_of s x) k.2)
 
-  begun-in : (ps : List Span) → Each (λ (p : Span). p.first.says.event ≡ some Restart → late_entry p.first ≡ false) ps → Each (λ (p : Span). p.first.says.event ≡ some Restart) ps
+  begun-in : (ps : List Span) → Each (λ (p : Span). p.first.says.event ≡ Some Restart → late_entry p.first ≡ false) ps → Each (λ (p : Span). p.first.says.event ≡ Some Restart) ps
       → Each (λ (p : Span). late_entry p.first ≡ false) ps
   begun-in [] h b = tt
   begun-in (p ∷ ps) h b = (h.0 b.0, begun-in ps h.1 b.1)
 
-  accepted-firsts : (xs : List Entry) → Chain s none xs → Each (λ (p : Span). late_entry p.first ≡ false) (spans_of xs)
+  accepted-firsts : (xs : List Entry) → Chain s None xs → Each (λ (p : Span). late_entry p.first ≡ false) (spans_of xs)
   accepted-firsts [] k = tt
   accepted-firsts (x ∷ xs) k =
-      (first-in x k.0, begun-in (cut xs).spans (cut-firsts (λ (y : Entry). y.says.event ≡ some Restart → late_entry y ≡ false) xs (each-not-late xs (next_of s x) k.2)) (splits (x ∷ xs)).begun)
+      (first-in x k.0, begun-in (cut xs).spans (cut-firsts (λ (y : Entry). y.says.event ≡ Some Restart → late_entry y ≡ false) xs (each-not-late xs (next_of s x) k.2)) (splits (x ∷ xs)).begun)
 
 -- ---- the sum of the samples
 
@@ -160,7 +160,7 @@ module _ (samples : List Float) (size : length samples ≡ 476) (s : Settings) (
   key lies =
       let lines = tells_all samples size s now calls ok lies in
       let agrees : Agrees s (paired s calls replies) (waiting_in end.session.receiver end.samples) entries = demand3 samples size s now calls ok lies in
-      let chain : Chain s none entries = chained s (blank now) (paired s calls replies) lines in
+      let chain : Chain s None entries = chained s (blank now) (paired s calls replies) lines in
       let told : stretches_told (calls_of calls) replies ≡ map told_of (spans_of entries) =
       ap (noted_all []) (records-are s (blank now) calls replies lines) ∙ stretches-are s entries chain lies in
       let pairs = pairs-are samples s (opened_with samples s now) calls size in

@@ -1,27 +1,27 @@
 -- What the code makes of a call and its answer, as numbers in lent buffers. Definitions only.
-use Rattle.std.specs.Prelude.{ℕ, ◌≡◌, List, [], ◌∷◌, eqb}
+use Rattle.std.specs.Prelude.{ℕ, ◌≡◌, List, [], ◌∷◌, eqb, Option, Some, None}
 use Rattle.base.specs.Pick.{pick}
 use Rattle.model.specs.Answer.{Answer, refused, done, heard, took, slot, flag}
 use Rattle.encoding.specs.Lists.{part}
 use Rattle.encoding.specs.declared.words.Words.{Words}
 use Rattle.tally.specs.Table.{fitting, note_in, table_in, handing}
+use Rattle.tally.specs.declared.record.Event.{Event}
 use Rattle.tally.specs.declared.record.Record.{Record}
 use Rattle.tally.specs.declared.account.Account.{Account}
 use Rattle.tally.specs.declared.account.Noted.{Noted}
 use Rattle.answers.specs.Code.{answer_of}
 use Rattle.marking.specs.Records.{event_of, number_in, heard_as}
-use Rattle.marking.specs.declared.note.Said.{Said}
 
-abbrev pub said_of : Answer → Said
-said_of (heard e missing) = Said.Event (event_of e)
-said_of (refused k) = Said.Nothing
-said_of (done word) = Said.Nothing
-said_of (took n) = Said.Nothing
-said_of (slot held) = Said.Nothing
-said_of (flag stalled) = Said.Nothing
+abbrev pub said_of : Answer → Option Event
+said_of (heard e missing) = Some (event_of e)
+said_of (refused k) = None
+said_of (done word) = None
+said_of (took n) = None
+said_of (slot held) = None
+said_of (flag stalled) = None
 
 -- what an answer of this code says, whatever its value
-pub record SaidBy (code : ℕ) (r : Said) : Type 0 where
+pub record SaidBy (code : ℕ) (r : Option Event) : Type 0 where
   pub says : (value : ℕ) → r ≡ said_of (answer_of code value)
 
 -- at most one record

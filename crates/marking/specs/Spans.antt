@@ -1,6 +1,5 @@
 -- Demand 3's stretches of a list of arrivals, and what is told of each, in whole numbers. Definitions only.
-use Rattle.std.specs.Prelude.{ℕ, ◌+◌, ◌%◌, ◌^◌, ◌≡◌, ◌≢◌, Bool, true, false, cond, List, [], ◌∷◌, ◌++◌, length, ◌-ℤ◌}
-use Rattle.std.proofs.Math.Option.{Option, some, none}
+use Rattle.std.specs.Prelude.{ℕ, ◌+◌, ◌%◌, ◌^◌, ◌≡◌, ◌≢◌, Bool, true, false, cond, List, [], ◌∷◌, ◌++◌, length, ◌-ℤ◌, Option, Some, None}
 use Rattle.base.specs.Each.{Each}
 use Rattle.sequence.specs.declared.SeqEvent.{SeqEvent}
 use Rattle.sequence.specs.declared.SeqEvent.TheVariants.{InOrder, Gap, Stale, Restart}
@@ -14,11 +13,11 @@ pub record Span : Type 0 where
   pub others : List Entry
 
 abbrev pub is_restart : Option SeqEvent → Bool
-is_restart none = false
-is_restart (some InOrder) = false
-is_restart (some (Gap n)) = false
-is_restart (some Stale) = false
-is_restart (some Restart) = true
+is_restart None = false
+is_restart (Some InOrder) = false
+is_restart (Some (Gap n)) = false
+is_restart (Some Stale) = false
+is_restart (Some Restart) = true
 
 -- ---- the stretches of a list
 
@@ -54,11 +53,11 @@ arrivals_in [] = []
 arrivals_in (p ∷ ps) = (p.first ∷ p.others) ++ arrivals_in ps
 
 abbrev pub Steady : Span → Type 0
-Steady p = Each (λ y. y.says.event ≢ some Restart) p.others
+Steady p = Each (λ y. y.says.event ≢ Some Restart) p.others
 
 abbrev pub Begun : List Span → Type 0
 Begun [] = Unit {0}
-Begun (p ∷ ps) = Each (λ q. q.first.says.event ≡ some Restart) ps
+Begun (p ∷ ps) = Each (λ q. q.first.says.event ≡ Some Restart) ps
 
 pub record Splits (entries : List Entry) (ps : List Span) : Type 0 where
   pub all : arrivals_in ps ≡ entries

@@ -13,28 +13,22 @@ use tally::account::{Account, Noted, TABLE, hand};
 use tally::record::{Event, Record};
 
 // What an answer's code tells of the stream.
-#[derive(Clone, Copy)]
-pub(crate) enum Said {
-    Nothing,
-    Event(Event),
-}
-
-fn said_by(code: u64) -> Said
+fn said_by(code: u64) -> Option<Event>
     ensures { SaidBy code result }
 {
     if code >= GAP {
-        return Said::Event(Event::Gap);
+        return Some(Event::Gap);
     }
     if code == IN_ORDER {
-        return Said::Event(Event::InOrder);
+        return Some(Event::InOrder);
     }
     if code == STALE {
-        return Said::Event(Event::Stale);
+        return Some(Event::Stale);
     }
     if code == RESTART {
-        return Said::Event(Event::Restart);
+        return Some(Event::Restart);
     }
-    Said::Nothing
+    None
 }
 
 // The account as it is.
@@ -59,10 +53,9 @@ fn arrived(
     ensures value { result ≡ noted_by a (heard_as reading number (answer_of code value)) }
     ensures table_after { table.new ≡ table_noted table.old a (heard_as reading number (answer_of code value)) }
 {
-    let told = said_by(code);
-    match told {
-        Said::Nothing => same(a),
-        Said::Event(event) => {
+    match said_by(code) {
+        None => same(a),
+        Some(event) => {
             let x = Record {
                 reading,
                 number,

@@ -1,4 +1,6 @@
 -- Each count is the sum of what was told, modulo 2^64, over every list of calls. Assumes nothing.
+use Rattle.std.specs.Prelude.{Option, Some, None}
+use Rattle.attenuator.specs.declared.Controller.{Controller}
 use Rattle.std.proofs.Common.{◌≡◌, ℕ, ◌+◌, ◌%◌, ◌^◌, List, [], ◌∷◌, refl, ap, ◌∙◌, arith}
 use lib.Ieee.{Float}
 use Rattle.base.specs.Told.{gives, refused}
@@ -20,8 +22,6 @@ use Rattle.model.specs.Close.{stop}
 use Rattle.model.specs.Drain.{take_missing, take_discontinuity, take_stalled}
 use Rattle.model.specs.Session.{step, answered, session}
 use Rattle.model.specs.Counted.{dropped_by, gap_by, malformed_by, total}
-use Rattle.model.specs.declared.session.Attenuation.{Attenuation}
-use Rattle.model.specs.declared.session.Attenuation.TheVariants.{Off, On}
 use Rattle.model.specs.declared.session.Common.{Common}
 use Rattle.model.specs.declared.session.Session.{Session}
 use Rattle.model.proofs.Refusals.{step-either}
@@ -102,12 +102,12 @@ module _ (h : InputHealthCounters) where
         heard-adds : (event : SeqEvent) (missing : ℕ) → Adds h (counted event (health_of st)) (heard event missing)
         heard-adds event missing = rw e (event-adds h event missing)
 
-    overload-adds : (a : Attenuation) (bits : Told.Told) → RightBy (overload st.session i d a bits)
+    overload-adds : (a : Option Controller) (bits : Told.Told) → RightBy (overload st.session i d a bits)
     unfolding overload
-    overload-adds Off bits = adds_none h _ _ e refl refl refl
-    overload-adds (On controller) (gives []) = adds_none h _ _ e refl refl refl
-    overload-adds (On controller) (gives (bits ∷ vs)) = adds_none h _ _ (ap (λ (c : Common). c.health) (stepped-steady i.later _ _).kept ∙ e) refl refl refl
-    overload-adds (On controller) (refused k vs) = adds_none h _ _ e refl refl refl
+    overload-adds None bits = adds_none h _ _ e refl refl refl
+    overload-adds (Some controller) (gives []) = adds_none h _ _ e refl refl refl
+    overload-adds (Some controller) (gives (bits ∷ vs)) = adds_none h _ _ (ap (λ (c : Common). c.health) (stepped-steady i.later _ _).kept ∙ e) refl refl refl
+    overload-adds (Some controller) (refused k vs) = adds_none h _ _ e refl refl refl
 
     broken-adds : RightBy (heard_malformed st.session d)
     unfolding heard_malformed with_one_more

@@ -1,4 +1,5 @@
 -- Counters and slots, over every list of calls from a session just opened. Assumes nothing.
+use Rattle.std.specs.Prelude.{None}
 use Rattle.std.proofs.Common.{◌≡◌, ℕ, ◌+◌, ◌%◌, ◌^◌, ◌<◌, T, List, ap, subst, arith}
 use lib.Ieee.{Float}
 use Rattle.base.specs.Pick.{pick}
@@ -9,7 +10,6 @@ use Rattle.model.specs.State.{State}
 use Rattle.model.specs.Session.{step, opened_with, session}
 use Rattle.model.specs.Counted.{dropped_by, gap_by, malformed_by, to_missing, to_discontinuity, total, held_in, held_by, drains_missing, drains_discontinuity, drained, Counts}
 use Rattle.model.specs.declared.receiver.Pending.{Pending}
-use Rattle.model.specs.declared.receiver.Slot.TheVariants.{Empty}
 use Rattle.model.specs.declared.session.Session.{Session}
 use Rattle.model.specs.declared.settings.Settings.{Settings}
 use Rattle.model.specs.Settings.{accepts}
@@ -29,7 +29,7 @@ module _ (samples : List Float) (s : Settings) (now : ℕ) (calls : List Call) (
   unfolding new_session new_common
   new-health = ap (λ (x : Session). x.common.health) (opened-new s now ok)
 
-  new-pending : pending_of first ≡ record { missing = Empty; discontinuity = Empty }
+  new-pending : pending_of first ≡ record { missing = None; discontinuity = None }
   unfolding new_session new_receiver
   new-pending = ap (λ (x : Session). x.receiver.pending) (opened-new s now ok)
 

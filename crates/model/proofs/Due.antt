@@ -1,17 +1,15 @@
 -- What is due: the streams that keepalives and a step list, and the clocks and the attenuator after them, are those of Timely. Assumes
 -- nothing.
+use Rattle.std.specs.Prelude.{Option, Some, None}
+use Rattle.attenuator.specs.declared.Controller.{Controller}
 use Rattle.std.proofs.Common.{◌≡◌, ℕ, Bool, true, false, List, [], ◌∷◌, ◌++◌, refl, ap, ◌∙◌}
 use Rattle.base.specs.Pick.{pick}
 use Rattle.attenuator.specs.Controller as Controller
 use Rattle.attenuator.specs.declared.AttenuationStep.{AttenuationStep}
-use Rattle.attenuator.specs.declared.AttenuationStep.TheVariants.{NoStep, Step}
-use Rattle.attenuator.specs.declared.Stepped.{Stepped}
+use Rattle.attenuator.specs.Controller.{Stepped}
 use Rattle.model.specs.Sending.{Sending, idle, then, send, send_high, send_rx_tx, send_general, high_if_due, rx_tx_if_due, general_if_due, keepalive, applied, stepped, tick, due_packets}
-use Rattle.model.specs.Parts.{with_high_priority, with_rx_tx_specific, with_general, with_attenuator}
+use Rattle.model.specs.Parts.{with_high_priority, with_rx_tx_specific, with_general, with_attenuation}
 use Rattle.model.specs.Timely.{Turn, turned, ticking, high_due, rx_tx_due, general_due, step_streams, step_clocks, due_clocks}
-use Rattle.model.specs.declared.session.Attenuation.{Attenuation}
-use Rattle.model.specs.declared.session.Attenuation.TheVariants.{Off, On}
-use Rattle.model.specs.declared.session.Attenuator.{Attenuator}
 use Rattle.model.specs.declared.session.Clocks.{Clocks}
 use Rattle.model.specs.declared.session.Common.{Common}
 
@@ -19,13 +17,13 @@ use Rattle.model.specs.declared.session.Common.{Common}
 pub record Sends (c : Common) (out : Sending) (listed : List ℕ) (moved : Clocks) : Type 0 where
   pub streams : out.streams ≡ listed
   pub clocks : out.common.clocks ≡ moved
-  pub attenuator : out.common.attenuator ≡ c.attenuator
+  pub attenuation : out.common.attenuation ≡ c.attenuation
 
 -- one packet, or none
 if-sends : (b : Bool) (c : Common) (out : Sending) (listed : List ℕ) (moved : Clocks) → Sends c out listed moved → Sends c (pick b out (idle c)) (pick b listed []) (pick b moved c.clocks)
 unfolding pick
 if-sends true c out listed moved h = h
-if-sends false c out listed moved h = record { streams = refl; clocks = refl; attenuator = refl }
+if-sends false c out listed moved h = record { streams = refl; clocks = refl; attenuation = refl }
 
 joined : {a b x y : List ℕ} → a ≡ b → x ≡ y → a ++ x ≡ b ++ y
 joined p q = cc
@@ -38,7 +36,7 @@ then-sends c out f listed moved streams clocks h k =
     record {
       streams = joined h.streams (g.streams ∙ ap streams h.clocks);
       clocks = g.clocks ∙ ap clocks h.clocks;
-      attenuator = g.attenuator ∙ h.attenuator;
+      attenuation = g.attenuation ∙ h.attenuation;
     }
 
 module _ (now : ℕ) where
@@ -64,15 +62,15 @@ module _ (now : ℕ) where
 
   high-sends : (c : Common) → Sends c (high_if_due now c) (high_streams c.clocks) (after_high c.clocks)
   unfolding high_if_due send_high send
-  high-sends c = if-sends (high_due c.clocks now) c (send_high now c) (3 ∷ []) (with_high_priority c.clocks now) (record { streams = refl; clocks = refl; attenuator = refl })
+  high-sends c = if-sends (high_due c.clocks now) c (send_high now c) (3 ∷ []) (with_high_priority c.clocks now) (record { streams = refl; clocks = refl; attenuation = refl })
 
   rx-tx-sends : (c : Common) → Sends c (rx_tx_if_due now c) (rx_tx_streams c.clocks) (after_rx_tx c.clocks)
   unfolding rx_tx_if_due send_rx_tx send
-  rx-tx-sends c = if-sends (rx_tx_due c.clocks now) c (send_rx_tx now c) (1 ∷ 2 ∷ []) (with_rx_tx_specific c.clocks now) (record { streams = refl; clocks = refl; attenuator = refl })
+  rx-tx-sends c = if-sends (rx_tx_due c.clocks now) c (send_rx_tx now c) (1 ∷ 2 ∷ []) (with_rx_tx_specific c.clocks now) (record { streams = refl; clocks = refl; attenuation = refl })
 
   general-sends : (c : Common) → Sends c (general_if_due now c) (general_streams c.clocks) (after_general c.clocks)
   unfolding general_if_due send_general send
-  general-sends c = if-sends (general_due c.clocks now) c (send_general now c) (0 ∷ []) (with_general c.clocks now) (record { streams = refl; clocks = refl; attenuator = refl })
+  general-sends c = if-sends (general_due c.clocks now) c (send_general now c) (0 ∷ []) (with_general c.clocks now) (record { streams = refl; clocks = refl; attenuation = refl })
 
   -- one clock's choice leaves the others, so that each goes by the clocks before all
   keepalive-streams : (k : Clocks) → high_streams k ++ (rx_tx_streams (after_high k) ++ general_streams (after_rx_tx (after_high k))) ≡ high_streams k ++ (rx_tx_streams k ++ general_streams k)
@@ -111,7 +109,7 @@ module _ (now : ℕ) where
       record {
         streams = all.streams ∙ keepalive-streams c.clocks;
         clocks = all.clocks ∙ keepalive-clocks c.clocks;
-        attenuator = all.attenuator;
+        attenuation = all.attenuation;
       }
 
   -- ---- a step
@@ -119,41 +117,41 @@ module _ (now : ℕ) where
   pub record Steps (out : Sending) (k : Clocks) (t : Turn) : Type 0 where
     pub streams : out.streams ≡ step_streams t
     pub clocks : out.common.clocks ≡ step_clocks k t now
-    pub attenuation : out.common.attenuator.attenuation ≡ t.attenuation
+    pub attenuation : out.common.attenuation ≡ t.attenuation
 
-  applied-steps : (step : AttenuationStep) (a : Attenuation) (c : Common) → c.attenuator.attenuation ≡ a → Steps (applied now step c) c.clocks (record { step = step; attenuation = a })
+  applied-steps : (step : Option AttenuationStep) (a : Option Controller) (c : Common) → c.attenuation ≡ a → Steps (applied now step c) c.clocks (record { step = step; attenuation = a })
   unfolding applied send_high send pick
-  applied-steps NoStep a c e = record { streams = refl; clocks = refl; attenuation = e }
-  applied-steps (Step from to cause) a c e = record { streams = refl; clocks = refl; attenuation = e }
+  applied-steps None a c e = record { streams = refl; clocks = refl; attenuation = e }
+  applied-steps (Some s) a c e = record { streams = refl; clocks = refl; attenuation = e }
 
   pub stepped-steps : (made : Stepped) (c : Common) → Steps (stepped now made c) c.clocks (turned made)
   unfolding stepped
-  stepped-steps made c = applied-steps made.step (On made.controller) (with_attenuator c (record { attenuation = On made.controller })) refl
+  stepped-steps made c = applied-steps made.step (Some made.controller) (with_attenuation c (Some made.controller)) refl
 
-  tick-steps : (a : Attenuation) (c : Common) → c.attenuator.attenuation ≡ a → Steps (tick now a c) c.clocks (ticking a now)
+  tick-steps : (a : Option Controller) (c : Common) → c.attenuation ≡ a → Steps (tick now a c) c.clocks (ticking a now)
   unfolding tick pick
-  tick-steps Off c e = record { streams = refl; clocks = refl; attenuation = e }
-  tick-steps (On controller) c e = stepped-steps (Controller.ticked controller now) c
+  tick-steps None c e = record { streams = refl; clocks = refl; attenuation = e }
+  tick-steps (Some controller) c e = stepped-steps (Controller.ticked controller now) c
 
   -- ---- all that a Pass sends
 
   pub record Dues (out : Sending) (c : Common) : Type 0 where
-    pub streams : out.streams ≡ (high_streams c.clocks ++ (rx_tx_streams c.clocks ++ general_streams c.clocks)) ++ step_streams (ticking c.attenuator.attenuation now)
-    pub clocks : out.common.clocks ≡ step_clocks (due_clocks c.clocks now) (ticking c.attenuator.attenuation now) now
-    pub attenuation : out.common.attenuator.attenuation ≡ (ticking c.attenuator.attenuation now).attenuation
+    pub streams : out.streams ≡ (high_streams c.clocks ++ (rx_tx_streams c.clocks ++ general_streams c.clocks)) ++ step_streams (ticking c.attenuation now)
+    pub clocks : out.common.clocks ≡ step_clocks (due_clocks c.clocks now) (ticking c.attenuation now) now
+    pub attenuation : out.common.attenuation ≡ (ticking c.attenuation now).attenuation
 
   pub due-is : (c : Common) → Dues (due_packets now c) c
   unfolding due_packets
   due-is c =
       let k = keepalive-sends c in
       let d = (keepalive now c).common in
-      let a = ap (λ (x : Attenuator). x.attenuation) k.attenuator in
-      let t = tick-steps d.attenuator.attenuation d refl in
+      let a = k.attenuation in
+      let t = tick-steps d.attenuation d refl in
       record {
-        streams = joined k.streams (t.streams ∙ ap (λ (x : Attenuation). step_streams (ticking x now)) a);
+        streams = joined k.streams (t.streams ∙ ap (λ (x : Option Controller). step_streams (ticking x now)) a);
         clocks = t.clocks ∙ both _ _ _ _ k.clocks a;
-        attenuation = t.attenuation ∙ ap (λ (x : Attenuation). (ticking x now).attenuation) a;
+        attenuation = t.attenuation ∙ ap (λ (x : Option Controller). (ticking x now).attenuation) a;
       }
     where
-      both : (k l : Clocks) (x y : Attenuation) → k ≡ l → x ≡ y → step_clocks k (ticking x now) now ≡ step_clocks l (ticking y now) now
+      both : (k l : Clocks) (x y : Option Controller) → k ≡ l → x ≡ y → step_clocks k (ticking x now) now ≡ step_clocks l (ticking y now) now
       both k l x y p q = rw (p, q) refl

@@ -1,6 +1,7 @@
 -- What each call leaves as it was, of every state; and what follows of a list of calls. Assumes nothing.
+use Rattle.std.specs.Prelude.{Option, Some, None}
+use Rattle.attenuator.specs.declared.Controller.{Controller}
 use Rattle.std.proofs.Common.{◌≡◌, ℕ, List, [], ◌∷◌, refl, ap, ◌∙◌, arith}
-use mathlib.Core.Option.{none}
 use Rattle.base.proofs.Picks.{pick-either}
 use Rattle.base.specs.Rows.{unless}
 use Rattle.base.proofs.Rows.{unless-map}
@@ -20,8 +21,6 @@ use Rattle.model.specs.Drain.{take_missing, take_discontinuity, take_stalled}
 use Rattle.model.specs.Session.{step, answered}
 use Rattle.model.specs.Leaves.{reading_of, reading_after, stored, counts_after, by_pass, by_status, by_arrival, control, changed, Leaves}
 use Rattle.model.specs.Parts.{with_common}
-use Rattle.model.specs.declared.session.Attenuation.{Attenuation}
-use Rattle.model.specs.declared.session.Attenuation.TheVariants.{Off, On}
 use Rattle.model.specs.declared.session.Session.{Session}
 use Rattle.model.proofs.Refusals.{refusal, step_is, step-either}
 use Rattle.model.proofs.Sends.{due-steady, stepped-steady, stop-steady}
@@ -59,12 +58,12 @@ module _ (st : State) (i : Incoming) (d : List ℕ) where
   abbrev HeardStatus : Step Session → Type 0
   HeardStatus x = x.state ≡ by_status st.session x.state
 
-  overload-leaves : (a : Attenuation) (bits : Told) → HeardStatus (overload st.session i d a bits)
+  overload-leaves : (a : Option Controller) (bits : Told) → HeardStatus (overload st.session i d a bits)
   unfolding overload
-  overload-leaves Off bits = refl
-  overload-leaves (On controller) (gives []) = refl
-  overload-leaves (On controller) (gives (bits ∷ vs)) = ap (with_common st.session) (stepped-steady i.later _ _).kept
-  overload-leaves (On controller) (refused k vs) = refl
+  overload-leaves None bits = refl
+  overload-leaves (Some controller) (gives []) = refl
+  overload-leaves (Some controller) (gives (bits ∷ vs)) = ap (with_common st.session) (stepped-steady i.later _ _).kept
+  overload-leaves (Some controller) (refused k vs) = refl
 
   abbrev Broken : Step Session → Type 0
   Broken x = Kept malformed (keeping st.samples x)
@@ -102,9 +101,9 @@ answered-leaves st TakeStalled = refl
 -- ---- every call
 
 -- where it is not refused; a refusal changes nothing at all
-pub leaves : (st : State) (c : Call) → refusal_of (step st c).reply.answer ≡ none → Leaves st c (step st c).state
+pub leaves : (st : State) (c : Call) → refusal_of (step st c).reply.answer ≡ None → Leaves st c (step st c).state
 leaves st c =
-    step-either (λ (x : Step State). refusal_of x.reply.answer ≡ none → Leaves st c x.state) st c
+    step-either (λ (x : Step State). refusal_of x.reply.answer ≡ None → Leaves st c x.state) st c
     (λ k e. let z : ◌≡◌ {A = ℕ} 0 1 = cc in absurd (omega arith))
     (λ _ e. answered-leaves st c)
 
@@ -154,12 +153,12 @@ passed-raises s now d =
     (due-steady now s.common).counted
 
 module _ (st : State) (i : Incoming) (d : List ℕ) where
-  overload-raises : (a : Attenuation) (bits : Told) → Raises seq_in (seq_at st) (overload st.session i d a bits)
+  overload-raises : (a : Option Controller) (bits : Told) → Raises seq_in (seq_at st) (overload st.session i d a bits)
   unfolding overload
-  overload-raises Off bits = refl
-  overload-raises (On controller) (gives []) = refl
-  overload-raises (On controller) (gives (bits ∷ vs)) = (stepped-steady i.later _ st.session.common).counted
-  overload-raises (On controller) (refused k vs) = refl
+  overload-raises None bits = refl
+  overload-raises (Some controller) (gives []) = refl
+  overload-raises (Some controller) (gives (bits ∷ vs)) = (stepped-steady i.later _ st.session.common).counted
+  overload-raises (Some controller) (refused k vs) = refl
 
   arrived-raises : (p : Routed) → Raises seq_at (seq_at st) (arrived st i d p)
   unfolding arrived heard_status heard_iq heard_as hear heard_malformed with_one_more

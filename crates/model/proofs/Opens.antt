@@ -1,7 +1,7 @@
 -- What Open gives, and what of it stays over every list of calls: the settings and what the packets carry of them, the phase word
 -- among these; and the session beside a refusal, which refuses every call. Assumes nothing.
+use Rattle.std.specs.Prelude.{Some}
 use Rattle.std.proofs.Common.{◌≡◌, ℕ, ◌*◌, ◌/◌, Bool, true, false, ◌&&◌, T, List, [], ◌∷◌, sym, refl, ap, ◌∙◌, subst, arith}
-use mathlib.Core.Option.{some}
 use lib.Ieee.{Float}
 use lib.Ieee.Bits.{is_true}
 use Rattle.base.proofs.Picks.{pick-t, pick-f}
@@ -51,7 +51,7 @@ module _ (samples : List Float) where
   abbrev beside : State
   beside = record { session = unopened; samples = samples }
 
-  unopened-refuses : (c : Call) → is_drain c ≡ false → refusal_of (step beside c).reply.answer ≡ some 10
+  unopened-refuses : (c : Call) → is_drain c ≡ false → refusal_of (step beside c).reply.answer ≡ Some 10
   unfolding unopened pick
   unopened-refuses (Begin now) e = refused-by beside (Begin now)
   unopened-refuses (Pass now d) e = refused-by beside (Pass now d)
@@ -65,7 +65,7 @@ module _ (samples : List Float) where
   refused-stays : (c : Call) → is_drain c ≡ false → (step beside c).state ≡ beside
   refused-stays c e = ((refused-unchanged beside c).guard (by_number (unopened-refuses c e))).state
     where
-      by_number : refusal_of (step beside c).reply.answer ≡ some 10 → T (tells (step beside c).reply.answer).refusal
+      by_number : refusal_of (step beside c).reply.answer ≡ Some 10 → T (tells (step beside c).reply.answer).refusal
       by_number h = told-refusal (step beside c).reply.answer 10 h
 
   unopened-stays : (c : Call) → (step beside c).state ≡ beside
@@ -87,7 +87,7 @@ module _ (samples : List Float) (s : Settings) (now : ℕ) (refused : accepts s 
   is-beside : there ≡ beside samples
   is-beside = ap (λ (x : Session). record { session = x; samples = samples }) (opened-not s now refused)
 
-  pub beside-refuses : (c : Call) → is_drain c ≡ false → refusal_of (step there c).reply.answer ≡ some 10
+  pub beside-refuses : (c : Call) → is_drain c ≡ false → refusal_of (step there c).reply.answer ≡ Some 10
   beside-refuses c e = ap (λ (x : State). refusal_of (step x c).reply.answer) is-beside ∙ unopened-refuses samples c e
 
   pub beside-stays : (c : Call) → (step there c).state ≡ there

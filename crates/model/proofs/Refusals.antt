@@ -1,7 +1,8 @@
 -- Demand 1 of the calls: whatever the state, a call is refused by the first row of 01's table that applies, which changes nothing, and is
 -- answered where none applies. Assumes nothing.
+use Rattle.std.specs.Prelude.{Option, Some, None}
+use Rattle.attenuator.specs.declared.Controller.{Controller}
 use Rattle.std.proofs.Common.{◌≡◌, ℕ, false, T, List, [], ◌∷◌, refl, arith}
-use mathlib.Core.Option.{some, none}
 use Rattle.base.proofs.Picks.{pick-either}
 use Rattle.base.specs.Rows.{first_row, unless}
 use Rattle.base.proofs.Rows.{NoRow, unless-either, unless-map, unless-refused}
@@ -21,8 +22,6 @@ use Rattle.model.specs.Drain.{take_missing, take_discontinuity, take_stalled}
 use Rattle.model.specs.Session.{step, answered}
 use Rattle.model.specs.Refusals.{lent_packets, lent_buffer, Guarded}
 use Rattle.model.specs.Answer.{Answer, tells}
-use Rattle.model.specs.declared.session.Attenuation.{Attenuation}
-use Rattle.model.specs.declared.session.Attenuation.TheVariants.{Off, On}
 use Rattle.model.specs.declared.session.Session.{Session}
 use Rattle.model.specs.declared.settings.Settings.{Settings}
 
@@ -50,7 +49,7 @@ step-either P st c r a = rw (step_is st c) (unless-either P (rows_of st c) (refu
 -- ---- what is answered is no refusal
 
 abbrev Answers : {S : Type 0} → Step S → Type 0
-Answers x = refusal_of x.reply.answer ≡ none
+Answers x = refusal_of x.reply.answer ≡ None
 
 passed-answers : (s : Session) (now : ℕ) (d : List ℕ) → Answers (passed s now d)
 unfolding passed stall_soft stall_hard
@@ -62,12 +61,12 @@ module _ (st : State) (i : Incoming) (d : List ℕ) where
   unfolding heard_iq heard_as hear
   iq-answers count = pick-either _ _ _ Answers (λ _. refl) (λ _. refl)
 
-  overload-answers : (a : Attenuation) (bits : Told) → Answers (overload st.session i d a bits)
+  overload-answers : (a : Option Controller) (bits : Told) → Answers (overload st.session i d a bits)
   unfolding overload
-  overload-answers Off bits = refl
-  overload-answers (On controller) (gives []) = refl
-  overload-answers (On controller) (gives (bits ∷ vs)) = refl
-  overload-answers (On controller) (refused k vs) = refl
+  overload-answers None bits = refl
+  overload-answers (Some controller) (gives []) = refl
+  overload-answers (Some controller) (gives (bits ∷ vs)) = refl
+  overload-answers (Some controller) (refused k vs) = refl
 
   malformed-answers : Answers (heard_malformed st.session d)
   unfolding heard_malformed
@@ -80,7 +79,7 @@ module _ (st : State) (i : Incoming) (d : List ℕ) where
   arrived-answers ignored = refl
   arrived-answers malformed = malformed-answers
 
-pub answered-not-refused : (st : State) (c : Call) → refusal_of (answered st c).reply.answer ≡ none
+pub answered-not-refused : (st : State) (c : Call) → refusal_of (answered st c).reply.answer ≡ None
 unfolding hand_out stop take_missing take_discontinuity take_stalled
 answered-not-refused st (Begin now) = refl
 answered-not-refused st (Pass now d) = passed-answers _ now d
@@ -99,7 +98,7 @@ refused-by st c =
     rw (step_is st c)
     (unless-refused (λ (x : Step State). refusal_of x.reply.answer) (rows_of st c) (refusal st c) (answered st c) (λ k. refl) (answered-not-refused st c))
 
-told-no-refusal : (a : Answer) → refusal_of a ≡ none → (tells a).refusal ≡ false
+told-no-refusal : (a : Answer) → refusal_of a ≡ None → (tells a).refusal ≡ false
 told-no-refusal (Answer.refused k) e = let z : ◌≡◌ {A = ℕ} 0 1 = cc in absurd (omega arith)
 told-no-refusal (Answer.done w) e = refl
 told-no-refusal (Answer.heard event missing) e = refl
@@ -107,7 +106,7 @@ told-no-refusal (Answer.took n) e = refl
 told-no-refusal (Answer.slot held) e = refl
 told-no-refusal (Answer.flag stalled) e = refl
 
-pub told-refusal : (a : Answer) (k : ℕ) → refusal_of a ≡ some k → T (tells a).refusal
+pub told-refusal : (a : Answer) (k : ℕ) → refusal_of a ≡ Some k → T (tells a).refusal
 told-refusal (Answer.refused n) k e = tt
 told-refusal (Answer.done w) k e = let z : ◌≡◌ {A = ℕ} 0 1 = cc in absurd (omega arith)
 told-refusal (Answer.heard event missing) k e = let z : ◌≡◌ {A = ℕ} 0 1 = cc in absurd (omega arith)

@@ -1,4 +1,6 @@
 -- What a call writes has room, whatever the state and the call. Assumes nothing.
+use Rattle.std.specs.Prelude.{Option, Some, None}
+use Rattle.attenuator.specs.declared.Controller.{Controller}
 use Rattle.std.proofs.Common.{◌≡◌, ℕ, ◌+◌, ◌-◌, ◌*◌, ◌/◌, ◌≤◌, min, Bool, true, false, List, [], ◌∷◌, length, take, drop, refl, arith, length-append, length-take, ltb-false}
 use lib.Ieee.{Float}
 use Rattle.octets.specs.Written.{written}
@@ -7,8 +9,7 @@ use Rattle.octets.proofs.Writes.{length-written}
 use Rattle.base.specs.Told.{Told, gives, refused}
 use Rattle.wire.proofs.ReadBack.{general-length, rx-length, tx-length, high-length}
 use Rattle.attenuator.specs.declared.AttenuationStep.{AttenuationStep}
-use Rattle.attenuator.specs.declared.Stepped.{Stepped}
-use Rattle.attenuator.specs.declared.AttenuationStep.TheVariants as step
+use Rattle.attenuator.specs.Controller.{Stepped}
 use Rattle.attenuator.specs.Controller as Controller
 use Rattle.wire.specs.Command.{size_of}
 use Rattle.wire.specs.Status.{overloaded}
@@ -27,8 +28,6 @@ use Rattle.model.specs.Refusals.{lent_packets, lent_buffer}
 use Rattle.model.specs.Room.{Roomy}
 use Rattle.wire.specs.declared.command.Stream.{Stream}
 use Rattle.wire.specs.declared.command.Stream.TheVariants.{General, RxSpecific, TxSpecific, HighPriority}
-use Rattle.model.specs.declared.session.Attenuation.{Attenuation}
-use Rattle.model.specs.declared.session.Attenuation.TheVariants.{Off, On}
 use Rattle.model.specs.declared.session.Common.{Common}
 use Rattle.model.specs.declared.session.Session.{Session}
 
@@ -84,26 +83,26 @@ keepalive-within now c =
     then-within 1444 1 1564 3 (high_if_due now c) (λ (d : Common). then (rx_tx_if_due now d) (general_if_due now)) (high-due-within now c) λ d.
     then-within 1504 2 60 1 (rx_tx_if_due now d) (general_if_due now) (rx-tx-due-within now d) (λ e. general-due-within now e)
 
-applied-within : (now : ℕ) (made : AttenuationStep) (c : Common) → Within 1444 1 (applied now made c)
+applied-within : (now : ℕ) (made : Option AttenuationStep) (c : Common) → Within 1444 1 (applied now made c)
 unfolding applied
-applied-within now step.NoStep c = idle-within 1444 1 c
-applied-within now (step.Step from to cause) c = high-within now c
+applied-within now None c = idle-within 1444 1 c
+applied-within now (Some s) c = high-within now c
 
 pub stepped_within : (now : ℕ) (made : Stepped) (c : Common) → Within 1444 1 (stepped now made c)
 unfolding stepped
 stepped_within now made c = applied-within now made.step _
 
-pub tick-within : (now : ℕ) (a : Attenuation) (c : Common) → Within 1444 1 (tick now a c)
+pub tick-within : (now : ℕ) (a : Option Controller) (c : Common) → Within 1444 1 (tick now a c)
 unfolding tick
-tick-within now Off c = idle-within 1444 1 c
-tick-within now (On controller) c = stepped_within now _ c
+tick-within now None c = idle-within 1444 1 c
+tick-within now (Some controller) c = stepped_within now _ c
 
 -- the four keepalives and a step's packet, 4452 octets; those of Close, 2888
 pub due-within : (now : ℕ) (c : Common) → Within 4452 5 (due_packets now c)
 unfolding due_packets
 due-within now c =
-    then-within 3008 4 1444 1 (keepalive now c) (λ (d : Common). tick now d.attenuator.attenuation d) (keepalive-within now c)
-    (λ d. tick-within now d.attenuator.attenuation d)
+    then-within 3008 4 1444 1 (keepalive now c) (λ (d : Common). tick now d.attenuation d) (keepalive-within now c)
+    (λ d. tick-within now d.attenuation d)
 
 pub stop-within : (c : Common) → Within 2888 2 (stop_packets c)
 unfolding stop_packets
@@ -160,12 +159,12 @@ module _ (i : Incoming) (d : List ℕ) where
   unfolding heard_iq heard_as hear
   iq-roomy st count = pick-either _ _ _ There (λ _. untouched (Arrival i d) _ refl refl refl) (λ _. untouched (Arrival i d) _ refl refl refl)
 
-  overload-roomy : (st : State) (a : Attenuation) (bits : Told) → 1444 ≤ length d → There (keeping st.samples (overload st.session i d a bits))
+  overload-roomy : (st : State) (a : Option Controller) (bits : Told) → 1444 ≤ length d → There (keeping st.samples (overload st.session i d a bits))
   unfolding overload
-  overload-roomy st Off bits l = untouched (Arrival i d) _ refl refl refl
-  overload-roomy st (On controller) (gives []) l = untouched (Arrival i d) _ refl refl refl
-  overload-roomy st (On controller) (refused k vs) l = untouched (Arrival i d) _ refl refl refl
-  overload-roomy st (On controller) (gives (bits ∷ vs)) l =
+  overload-roomy st None bits l = untouched (Arrival i d) _ refl refl refl
+  overload-roomy st (Some controller) (gives []) l = untouched (Arrival i d) _ refl refl refl
+  overload-roomy st (Some controller) (refused k vs) l = untouched (Arrival i d) _ refl refl refl
+  overload-roomy st (Some controller) (gives (bits ∷ vs)) l =
       let out = stepped i.later (Controller.observed controller (overloaded bits) i.now) st.session.common in
       let w : Within 1444 1 out = stepped_within i.later _ st.session.common in
       record { packets = filled d out 1444 1 w l; buffer = refl; streams = omega (arith, w.streams) }

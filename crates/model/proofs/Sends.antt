@@ -1,18 +1,17 @@
 -- What is sent moves counts, clocks and the attenuator, and nothing else of what is common; each stream that it lists counts one more.
 -- Assumes nothing.
+use Rattle.std.specs.Prelude.{Option, Some, None}
+use Rattle.attenuator.specs.declared.Controller.{Controller}
 use Rattle.std.proofs.Common.{◌≡◌, ℕ, Bool, false, List, [], ◌∷◌, ◌++◌, refl, ap, ◌∙◌}
 use Rattle.base.proofs.Picks.{pick-either}
 use Rattle.attenuator.specs.Controller as Controller
 use Rattle.attenuator.specs.declared.AttenuationStep.{AttenuationStep}
-use Rattle.attenuator.specs.declared.AttenuationStep.TheVariants.{NoStep, Step}
-use Rattle.attenuator.specs.declared.Stepped.{Stepped}
+use Rattle.attenuator.specs.Controller.{Stepped}
 use Rattle.model.specs.Sending.{Sending, idle, then, raised, send, send_high, send_rx_tx, send_general, high_if_due, rx_tx_if_due, general_if_due, keepalive, applied, stepped, tick, due_packets, stop_packets}
-use Rattle.model.specs.Parts.{with_attenuator}
+use Rattle.model.specs.Parts.{with_attenuation}
 use Rattle.model.specs.Leaves.{sent_from, counts_after}
 use Rattle.wire.specs.declared.command.Stream.{Stream}
 use Rattle.wire.specs.declared.command.Stream.TheVariants.{HighPriority}
-use Rattle.model.specs.declared.session.Attenuation.{Attenuation}
-use Rattle.model.specs.declared.session.Attenuation.TheVariants.{Off, On}
 use Rattle.model.specs.declared.session.Common.{Common}
 
 pub record Steady (c : Common) (out : Sending) : Type 0 where
@@ -57,25 +56,25 @@ keepalive-steady now c =
     then-steady d (rx_tx_if_due now d) (general_if_due now) (if-due _ d (send_rx_tx now d) (rx-tx-steady now d)) λ e.
     if-due _ e (send_general now e) (general-steady now e)
 
-applied-steady : (now : ℕ) (step : AttenuationStep) (c : Common) → Steady c (applied now step c)
+applied-steady : (now : ℕ) (step : Option AttenuationStep) (c : Common) → Steady c (applied now step c)
 unfolding applied
-applied-steady now NoStep c = record { kept = refl; counted = refl }
-applied-steady now (Step from to cause) c = high-steady now c
+applied-steady now None c = record { kept = refl; counted = refl }
+applied-steady now (Some s) c = high-steady now c
 
 pub stepped-steady : (now : ℕ) (made : Stepped) (c : Common) → Steady c (stepped now made c)
 unfolding stepped
 stepped-steady now made c =
-    let a = applied-steady now made.step (with_attenuator c (record { attenuation = On made.controller })) in
+    let a = applied-steady now made.step (with_attenuation c (Some made.controller)) in
     record { kept = a.kept; counted = a.counted }
 
-tick-steady : (now : ℕ) (a : Attenuation) (c : Common) → Steady c (tick now a c)
+tick-steady : (now : ℕ) (a : Option Controller) (c : Common) → Steady c (tick now a c)
 unfolding tick
-tick-steady now Off c = record { kept = refl; counted = refl }
-tick-steady now (On controller) c = stepped-steady now (Controller.ticked controller now) c
+tick-steady now None c = record { kept = refl; counted = refl }
+tick-steady now (Some controller) c = stepped-steady now (Controller.ticked controller now) c
 
 pub due-steady : (now : ℕ) (c : Common) → Steady c (due_packets now c)
 unfolding due_packets
-due-steady now c = then-steady c (keepalive now c) (λ (d : Common). tick now d.attenuator.attenuation d) (keepalive-steady now c) (λ d. tick-steady now d.attenuator.attenuation d)
+due-steady now c = then-steady c (keepalive now c) (λ (d : Common). tick now d.attenuation d) (keepalive-steady now c) (λ d. tick-steady now d.attenuation d)
 
 pub stop-steady : (c : Common) → Steady c (stop_packets c)
 unfolding stop_packets

@@ -1,4 +1,6 @@
 -- What the drains returned and what still pends is the missing that was told, slot by slot, over every list of calls. Assumes nothing.
+use Rattle.std.specs.Prelude.{Option, Some, None}
+use Rattle.attenuator.specs.declared.Controller.{Controller}
 use Rattle.std.proofs.Common.{◌≡◌, ℕ, ◌+◌, ◌≤◌, Bool, true, false, List, [], ◌∷◌, refl, ap, ◌∙◌, arith}
 use lib.Ieee.{Float}
 use Rattle.base.specs.Pick.{pick}
@@ -23,10 +25,6 @@ use Rattle.model.specs.Drain.{take_missing, take_discontinuity, take_stalled}
 use Rattle.model.specs.Session.{step, answered, session}
 use Rattle.model.specs.Counted.{to_missing, to_discontinuity, total, held_in, held_by, drains_missing, drains_discontinuity, drained}
 use Rattle.model.specs.declared.receiver.Pending.{Pending}
-use Rattle.model.specs.declared.receiver.Slot.{Slot}
-use Rattle.model.specs.declared.receiver.Slot.TheVariants.{Empty, Holds}
-use Rattle.model.specs.declared.session.Attenuation.{Attenuation}
-use Rattle.model.specs.declared.session.Attenuation.TheVariants.{Off, On}
 use Rattle.model.specs.declared.session.Session.{Session}
 use Rattle.model.specs.declared.settings.Settings.{Settings}
 use Rattle.model.proofs.Refusals.{step-either}
@@ -63,12 +61,12 @@ moves-none rate p after c a e m d h =
     })
 
 -- n more in a slot
-held_more : (x : Slot) (n : ℕ) → held_in x + n ≤ most → held_in (added x n) ≡ held_in x + n
+held_more : (x : Option ℕ) (n : ℕ) → held_in x + n ≤ most → held_in (added x n) ≡ held_in x + n
 unfolding added
-held_more Empty n h = omega arith
-held_more (Holds m) n h = omega arith
+held_more None n h = omega arith
+held_more (Some m) n h = omega arith
 
-flow-held : (x : Slot) (n told out : ℕ) → told ≡ n → out ≡ 0 → Flow (held_in x) (held_in (added x n)) told out
+flow-held : (x : Option ℕ) (n told out : ℕ) → told ≡ n → out ≡ 0 → Flow (held_in x) (held_in (added x n)) told out
 flow-held x n told out t o h = let more = held_more x n (omega arith) in omega arith
 
 -- an arrival's event: what it misses goes to one of the slots
@@ -142,12 +140,12 @@ module _ (rate : Float) (p : Pending) (c : Call) where
     unfolding heard_iq heard_as hear left_out accepted_by
     iq-moves count = pick-either _ _ _ Slots (λ h. stale-moves _ _ h) (λ _. heard-moves _ _)
 
-    overload-moves : (a : Attenuation) (bits : Told.Told) → SlotsBy (overload st.session i d a bits)
+    overload-moves : (a : Option Controller) (bits : Told.Told) → SlotsBy (overload st.session i d a bits)
     unfolding overload
-    overload-moves Off bits = moves-none rate p _ c _ e refl refl refl
-    overload-moves (On controller) (gives []) = moves-none rate p _ c _ e refl refl refl
-    overload-moves (On controller) (gives (bits ∷ vs)) = moves-none rate p _ c _ e refl refl refl
-    overload-moves (On controller) (refused k vs) = moves-none rate p _ c _ e refl refl refl
+    overload-moves None bits = moves-none rate p _ c _ e refl refl refl
+    overload-moves (Some controller) (gives []) = moves-none rate p _ c _ e refl refl refl
+    overload-moves (Some controller) (gives (bits ∷ vs)) = moves-none rate p _ c _ e refl refl refl
+    overload-moves (Some controller) (refused k vs) = moves-none rate p _ c _ e refl refl refl
 
     broken-moves : SlotsBy (heard_malformed st.session d)
     unfolding heard_malformed

@@ -1,4 +1,6 @@
 -- Every call lists what is due, and a Pass tells a stall exactly where its time has passed, over every list of calls. Assumes nothing.
+use Rattle.std.specs.Prelude.{Option, Some, None}
+use Rattle.attenuator.specs.declared.Controller.{Controller}
 use Rattle.std.proofs.Common.{◌≡◌, ℕ, ◌+◌, ◌-◌, max, Bool, true, false, not, ◌&&◌, ◌||◌, ltb, leb, List, [], ◌∷◌, sym, refl, ap, ◌∙◌, subst, arith}
 use lib.Ieee.{Float}
 use Rattle.base.specs.Pick.{pick}
@@ -25,9 +27,6 @@ use Rattle.model.specs.Close.{stop}
 use Rattle.model.specs.Drain.{take_missing, take_discontinuity, take_stalled}
 use Rattle.model.specs.Session.{step, answered, session}
 use Rattle.model.specs.Timely.{Watch, woken, by_pass, soft_due, hard_due, hearing, heard_streams, step_streams, step_clocks, serving, watched_route, watched, OnTime, AllOnTime, Timely}
-use Rattle.model.specs.declared.receiver.Anchor.TheVariants.{Unset}
-use Rattle.model.specs.declared.session.Attenuation.{Attenuation}
-use Rattle.model.specs.declared.session.Attenuation.TheVariants.{Off, On}
 use Rattle.model.specs.declared.session.Clocks.{Clocks}
 use Rattle.model.specs.declared.session.Session.{Session}
 use Rattle.model.specs.declared.settings.Settings.{Settings}
@@ -43,7 +42,7 @@ watch_of anchor st =
     let r = st.session.receiver in
     record {
       clocks = c.clocks;
-      attenuation = c.attenuator.attenuation;
+      attenuation = c.attenuation;
       valid = r.last_valid_iq;
       wait = r.reading.wait_entered;
       anchor = anchor;
@@ -52,11 +51,11 @@ watch_of anchor st =
     }
 
 -- with other clocks and another attenuator
-abbrev sending_watch : Watch → Clocks → Attenuation → Watch
+abbrev sending_watch : Watch → Clocks → Option Controller → Watch
 sending_watch w k x =
     record { clocks = k; attenuation = x; valid = w.valid; wait = w.wait; anchor = w.anchor; delivering = w.delivering; waiting = w.waiting }
 
-sending-same : (w : Watch) {k l : Clocks} {x y : Attenuation} → k ≡ l → x ≡ y → sending_watch w k x ≡ sending_watch w l y
+sending-same : (w : Watch) {k l : Clocks} {x y : Option Controller} → k ≡ l → x ≡ y → sending_watch w k x ≡ sending_watch w l y
 sending-same w p q = rw (p, q) refl
 
 abbrev pub Anchored : ℕ → State → Type 0
@@ -230,7 +229,7 @@ module _ (st : State) (a : ℕ) (h : Anchored a st) where
 
     abbrev heard_watch : ℕ → Watch
     heard_watch n =
-        record { clocks = w.clocks; attenuation = w.attenuation; valid = i.now; wait = Unset; anchor = a; delivering = w.delivering; waiting = n }
+        record { clocks = w.clocks; attenuation = w.attenuation; valid = i.now; wait = None; anchor = a; delivering = w.delivering; waiting = n }
 
     iq-fine : (count : ℕ) → FineAt (iq count) (heard_iq then i d count)
     unfolding heard_iq heard_as hear left_out accepted_by left
@@ -240,20 +239,20 @@ module _ (st : State) (a : ℕ) (h : Anchored a st) where
         (λ e. record { given = refl; next = ap heard_watch (pick-f _ _ _ e); anchored = h; lists = refl })
 
     -- what a status packet gave, the attenuator being this
-    record Heard (attenuation : Attenuation) (bits : Told) (x : Step Session) : Type 0 where
+    record Heard (attenuation : Option Controller) (bits : Told) (x : Step Session) : Type 0 where
       pub next : sending_watch w (step_clocks w.clocks (hearing attenuation bits i.now) i.later) (hearing attenuation bits i.now).attenuation ≡ watch_of a (keeping st.samples x).state
       pub anchored : Anchored a (keeping st.samples x).state
       pub lists : x.reply.streams ≡ step_streams (hearing attenuation bits i.now)
       pub given : (tells x.reply.answer).refusal ≡ false
 
-    overload-fine : (x : Attenuation) (bits : Told) → w.attenuation ≡ x → Heard x bits (overload then.session i d x bits)
+    overload-fine : (x : Option Controller) (bits : Told) → w.attenuation ≡ x → Heard x bits (overload then.session i d x bits)
     unfolding overload left pick
-    overload-fine Off bits e = record { next = ap (sending_watch w w.clocks) (sym e); anchored = h; lists = refl; given = refl }
-    overload-fine (On controller) (gives []) e = record { next = ap (sending_watch w w.clocks) (sym e); anchored = h; lists = refl; given = refl }
-    overload-fine (On controller) (gives (bits ∷ vs)) e =
+    overload-fine None bits e = record { next = ap (sending_watch w w.clocks) (sym e); anchored = h; lists = refl; given = refl }
+    overload-fine (Some controller) (gives []) e = record { next = ap (sending_watch w w.clocks) (sym e); anchored = h; lists = refl; given = refl }
+    overload-fine (Some controller) (gives (bits ∷ vs)) e =
         let made = stepped-steps i.later (Controller.observed controller (overloaded bits) i.now) then.session.common in
         record { next = sending-same w (sym made.clocks) (sym made.attenuation); anchored = h; lists = made.streams; given = refl }
-    overload-fine (On controller) (refused k vs) e = record { next = ap (sending_watch w w.clocks) (sym e); anchored = h; lists = refl; given = refl }
+    overload-fine (Some controller) (refused k vs) e = record { next = ap (sending_watch w w.clocks) (sym e); anchored = h; lists = refl; given = refl }
 
     status-fine : FineAt status (keeping st.samples (heard_status then.session i d))
     unfolding heard_status

@@ -1,10 +1,9 @@
 -- The walk over the waiting numbers: of as many as an Arrival takes, the total saturates for none. Assumes nothing.
+use Rattle.std.specs.Prelude.{Option, Some, None}
 use Rattle.std.proofs.Common.{◌≡◌, ℕ, ◌*◌, ◌<◌, ◌≤◌, min, List, [], ◌∷◌, length, arith, ltb-true}
 use Rattle.base.proofs.Picks.{pick-either}
 use Rattle.double.specs.Whole.{most}
 use Rattle.sequence.specs.Tracker.{less, meant, meaning, moved, observed}
-use Rattle.sequence.specs.declared.Expected.{Expected}
-use Rattle.sequence.specs.declared.Expected.TheVariants.{Nothing, Next}
 use Rattle.sequence.specs.declared.SeqEvent.{SeqEvent}
 use Rattle.sequence.specs.declared.SeqEvent.TheVariants.{InOrder, Gap, Stale, Restart}
 use Rattle.sequence.specs.declared.SeqTracker.{SeqTracker}
@@ -25,9 +24,9 @@ meant_small d run seq =
     (λ e. pick-either _ _ _ Small (λ e. ltb-true d 2147483648 e)
     (λ e. pick-either _ _ _ Small (λ e. pick-either _ _ _ Small (λ e. tt) (λ e. tt)) (λ e. tt))))
 
-meaning-small : (x : Expected) (run seq : ℕ) → Small (meaning x run seq)
-meaning-small Nothing run seq = tt
-meaning-small (Next x) run seq = meant_small (less seq x) run seq
+meaning-small : (x : Option ℕ) (run seq : ℕ) → Small (meaning x run seq)
+meaning-small None run seq = tt
+meaning-small (Some x) run seq = meant_small (less seq x) run seq
 
 module _ (t : SeqTracker) (seq : ℕ) where
   moved-small : (e : SeqEvent) → Small e → Small (moved t seq e).event

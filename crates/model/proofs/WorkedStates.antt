@@ -1,4 +1,5 @@
 -- Worked cases of what calls leave: states, counts at the end of their range, and the packets that are due at a reading. Assumes nothing.
+use Rattle.std.specs.Prelude.{Option, Some, None}
 use Rattle.std.proofs.Common.{ℕ, List, [], ◌∷◌, get_or, replicate, refl}
 use lib.Ieee.{lt, of_int, mul, div, add, sub, round}
 use Rattle.double.specs.Whole.{nat_of, rounded}
@@ -16,15 +17,12 @@ use Rattle.model.specs.Open.{new_common}
 use Rattle.model.specs.Session.{step}
 use Rattle.model.specs.Lists.{usual, iq_at, iq_with, room, silence}
 use Rattle.base.specs.Cases.{Case, case, Hold}
-use Rattle.model.specs.Edges.{Given, held}
-use Rattle.model.specs.declared.receiver.Window.TheVariants.{Shut, Open}
-use Rattle.model.specs.declared.receiver.Slot.TheVariants.{Holds}
+use Rattle.model.specs.Edges.{parked, Given, held}
 use Rattle.model.specs.declared.sender.Sender.TheVariants.{V6}
 use Rattle.base.specs.Pick.{pick}
 use Rattle.double.specs.Seconds.{seconds_of}
 use Rattle.iq.specs.Iq.{header_told, rows}
 use Rattle.sequence.specs.Tracker as Sequence
-use Rattle.sequence.specs.declared.Expected.TheVariants.{Next}
 use Rattle.model.specs.Hearing.{event_of, restart_of, left_out, accepted_by}
 use Rattle.model.specs.Arrival.{hear, heard_as, heard_iq, with_one_more, heard_malformed, arrived, arrival}
 use Rattle.model.specs.Parts.{with_pending, with_parked, with_seq, with_consecutive_malformed}
@@ -32,16 +30,12 @@ use Rattle.model.specs.Sending.{send, send_high, send_rx_tx, send_general, high_
 use Rattle.model.specs.Open.{attenuation_at}
 use Rattle.model.specs.Edges.{listed}
 use Rattle.model.specs.declared.session.Common.{Common}
-use Rattle.sequence.specs.declared.Expected.{Expected}
-use Rattle.sequence.specs.declared.Expected.TheVariants.{Nothing}
 use Rattle.model.proofs.Worked.{num, win, expecting_in}
 use Rattle.model.specs.Begin.{or_at, begun_by, begin}
 use Rattle.model.specs.State.{or_zero}
 use Rattle.model.specs.Host.{Begin}
 use Rattle.model.specs.Parts.{with_reading}
 use Rattle.model.specs.Rules.{begun}
-use Rattle.model.specs.declared.receiver.Anchor.{Anchor}
-use Rattle.model.specs.declared.receiver.Anchor.TheVariants.{Unset, At}
 use Rattle.model.specs.Rules.{pending_after}
 use Rattle.stream.specs.Elapsed.{below_half}
 
@@ -53,30 +47,30 @@ left_by st c = (step st c).state.session.receiver
 -- a state that expects 6, with its receiver changed
 abbrev having : (Receiver → Receiver) → State
 having f =
-    let st = expecting_in 6 0 (Open 0 0 2) in
+    let st = expecting_in 6 0 (parked 0 0 2) in
     record { session = with_receiver st.session (f st.session.receiver); samples = silence }
 
 -- the same out of a window, with both slots filled
 abbrev filled : State
-filled = having (λ r. with_parked (with_pending r (record { missing = Holds 5; discontinuity = Holds 9 })) (record { window = Shut }))
+filled = having (λ r. with_parked (with_pending r (record { missing = Some 5; discontinuity = Some 9 })) None)
 
 -- no read is open, and datagrams are waited for since then
-abbrev waiting_since : Anchor → State
-waiting_since anchor = having (λ r. with_reading r (record { wait_entered = anchor; entered = Unset }))
+abbrev waiting_since : Option ℕ → State
+waiting_since anchor = having (λ r. with_reading r (record { wait_entered = anchor; entered = None }))
 
-abbrev next_of : Expected → ℕ
-next_of Nothing = 0
-next_of (Next n) = n
+abbrev next_of : Option ℕ → ℕ
+next_of None = 0
+next_of (Some n) = n
 
 abbrev pub kept_cases : List (Case Given)
 kept_cases =
     -- the accepted time is the arrival's own reading, not its later one
     num (left_by (having (λ r. r)) (Arrival (iq_with 1000 2000 6 []) room)).last_accepted_iq 1000
     -- a stale one uses up nothing of a window
-    ∷ win (left_by (having (λ r. r)) (Arrival (iq_at 0 5) room)).parked.window (Open 0 0 2)
+    ∷ win (left_by (having (λ r. r)) (Arrival (iq_at 0 5) room)).parked (parked 0 0 2)
     -- a malformed one leaves the stale run
     ∷ num
-    (left_by (having (λ r. with_tracker r (record { expected = Next 6; stale_run = 3 })))
+    (left_by (having (λ r. with_tracker r (record { expected = Some 6; stale_run = 3 })))
     (Arrival (record { now = 0; later = 0; from = V6; octets = []; waiting = [] }) room)).tracker.stale_run
     3
     -- a soft stall leaves the Take's time
@@ -84,22 +78,22 @@ kept_cases =
     -- Close leaves what waits
     ∷ num (left (left_by (having (λ r. with_queue_pos r 0)) (Close (replicate 2888 0)))) 238
     -- Begin: a wait anchor that is set stays, and the read takes it over; an empty one becomes the reading
-    ∷ num (or_zero (left_by (waiting_since (At 5)) (Begin 9)).reading.wait_entered) 5
-    ∷ num (or_zero (left_by (waiting_since (At 5)) (Begin 9)).reading.entered) 5
-    ∷ num (or_zero (left_by (waiting_since Unset) (Begin 9)).reading.wait_entered) 9
-    ∷ num (or_zero (left_by (waiting_since Unset) (Begin 9)).reading.entered) 9
+    ∷ num (or_zero (left_by (waiting_since (Some 5)) (Begin 9)).reading.wait_entered) 5
+    ∷ num (or_zero (left_by (waiting_since (Some 5)) (Begin 9)).reading.entered) 5
+    ∷ num (or_zero (left_by (waiting_since None) (Begin 9)).reading.wait_entered) 9
+    ∷ num (or_zero (left_by (waiting_since None) (Begin 9)).reading.entered) 9
     -- an arrival after a gap of one: what waits, the accepted time, the window, the number that is expected
     ∷ num (left_by (having (λ r. r)) (Arrival (iq_with 1000 2000 7 []) room)).queue_pos 0
     ∷ num (left_by (having (λ r. r)) (Arrival (iq_with 1000 2000 7 []) room)).last_accepted_iq 1000
     ∷ num (left_by (having (λ r. r)) (Arrival (iq_with 1000 2000 7 []) room)).last_valid_iq 1000
-    ∷ win (left_by (having (λ r. r)) (Arrival (iq_with 1000 2000 7 []) room)).parked.window (Open 0 476 1)
+    ∷ win (left_by (having (λ r. r)) (Arrival (iq_with 1000 2000 7 []) room)).parked (parked 0 476 1)
     ∷ num (next_of (left_by (having (λ r. r)) (Arrival (iq_with 1000 2000 7 []) room)).tracker.expected) 8
     -- slots that hold 5 and 9: a gap of one, of 101, and a restart after a second
-    ∷ case (held (left_by filled (Arrival (iq_at 0 7) room)).pending.missing) (held (Holds 243))
-    ∷ case (held (left_by filled (Arrival (iq_at 0 7) room)).pending.discontinuity) (held (Holds 9))
-    ∷ case (held (left_by filled (Arrival (iq_at 0 107) room)).pending.missing) (held (Holds 5))
-    ∷ case (held (left_by filled (Arrival (iq_at 0 107) room)).pending.discontinuity) (held (Holds 24047))
-    ∷ case (held (left_by filled (Arrival (iq_at 1000000000 0) room)).pending.discontinuity) (held (Holds 47771))
+    ∷ case (held (left_by filled (Arrival (iq_at 0 7) room)).pending.missing) (held (Some 243))
+    ∷ case (held (left_by filled (Arrival (iq_at 0 7) room)).pending.discontinuity) (held (Some 9))
+    ∷ case (held (left_by filled (Arrival (iq_at 0 107) room)).pending.missing) (held (Some 5))
+    ∷ case (held (left_by filled (Arrival (iq_at 0 107) room)).pending.discontinuity) (held (Some 24047))
+    ∷ case (held (left_by filled (Arrival (iq_at 1000000000 0) room)).pending.discontinuity) (held (Some 47771))
     ∷ []
 
 -- ---- counts at the end of their range: those of the streams wrap, the malformed run saturates

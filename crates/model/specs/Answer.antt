@@ -1,18 +1,12 @@
 -- What a call answers, in 01's words and numbers, and each answer of the code as one of them. Definitions only.
-use Rattle.std.specs.Prelude.{ℕ, Bool, true, false}
-use Rattle.std.proofs.Math.Option.{Option, some, none}
-use Rattle.sequence.specs.declared.SeqEvent.{SeqEvent}
-use Rattle.model.specs.declared.receiver.Slot.{Slot}
-use Rattle.model.specs.declared.answer.BeginAnswer.{BeginAnswer}
-use Rattle.model.specs.declared.answer.BeginAnswer.TheVariants as begin
-use Rattle.model.specs.declared.answer.PassAnswer.{PassAnswer}
+use Rattle.std.specs.Prelude.{⊤, ℕ, Bool, true, false, Option, Some, None, Result, Ok, Err}
+use Rattle.model.specs.declared.answer.Refusal.{Refusal}
+use Rattle.model.specs.declared.answer.Refusal.TheVariants as refusal
 use Rattle.model.specs.declared.answer.PassAnswer.TheVariants as pass
-use Rattle.model.specs.declared.answer.ArrivalAnswer.{ArrivalAnswer}
 use Rattle.model.specs.declared.answer.ArrivalAnswer.TheVariants as arrival
-use Rattle.model.specs.declared.answer.TakeAnswer.{TakeAnswer}
-use Rattle.model.specs.declared.answer.TakeAnswer.TheVariants as taking
-use Rattle.model.specs.declared.answer.CloseAnswer.{CloseAnswer}
-use Rattle.model.specs.declared.answer.CloseAnswer.TheVariants as closing
+use Rattle.sequence.specs.declared.SeqEvent.{SeqEvent}
+use Rattle.model.specs.declared.answer.PassAnswer.{PassAnswer}
+use Rattle.model.specs.declared.answer.ArrivalAnswer.{ArrivalAnswer}
 
 -- answers that give no number
 pub data Word : Type 0 where
@@ -36,47 +30,49 @@ pub data Answer : Type 0 where
   -- so many pairs were handed out
   took : (pairs : ℕ) → Answer
   -- what a drain returns
-  slot : (held : Slot) → Answer
+  slot : (held : Option ℕ) → Answer
   flag : (stalled : Bool) → Answer
 
-abbrev pub begin_answer : BeginAnswer → Answer
-begin_answer begin.Begun = done begun
-begin_answer begin.NotNow = refused 10
-begin_answer begin.ReadingFell = refused 11
+-- 01's number of a refusal
+abbrev pub refusal_number : Refusal → ℕ
+refusal_number refusal.NotNow = 10
+refusal_number refusal.ReadingFell = 11
+refusal_number refusal.SamplesWait = 12
+refusal_number refusal.LaterFell = 13
+refusal_number refusal.TooManyWaiting = 14
+refusal_number refusal.NoPacketRoom = 15
+refusal_number refusal.NoSampleRoom = 16
+refusal_number refusal.NothingWaits = 17
 
-abbrev pub pass_answer : PassAnswer → Answer
-pass_answer pass.Ready = done ready
-pass_answer pass.SoftStall = done soft_stall
-pass_answer pass.HardStall = done hard_stall
-pass_answer pass.Sent = done sent
-pass_answer pass.NotNow = refused 10
-pass_answer pass.ReadingFell = refused 11
-pass_answer pass.NoRoom = refused 15
+abbrev pub refused_by : Refusal → Answer
+refused_by r = refused (refusal_number r)
 
-abbrev pub arrival_answer : ArrivalAnswer → Answer
-arrival_answer arrival.Ignored = done ignored
-arrival_answer arrival.Status = done status
-arrival_answer arrival.Malformed = done malformed
-arrival_answer arrival.MalformedLimit = done malformed_limit
-arrival_answer (arrival.Iq event missing) = heard event missing
-arrival_answer arrival.NotNow = refused 10
-arrival_answer arrival.ReadingFell = refused 11
-arrival_answer arrival.SamplesWait = refused 12
-arrival_answer arrival.LaterFell = refused 13
-arrival_answer arrival.TooManyWaiting = refused 14
-arrival_answer arrival.NoRoom = refused 15
+abbrev pub begin_answer : Result ⊤ Refusal → Answer
+begin_answer (Ok u) = done begun
+begin_answer (Err r) = refused_by r
 
-abbrev pub take_answer : TakeAnswer → Answer
-take_answer (taking.Took pairs) = took pairs
-take_answer taking.NotNow = refused 10
-take_answer taking.ReadingFell = refused 11
-take_answer taking.NoRoom = refused 16
-take_answer taking.NothingWaits = refused 17
+abbrev pub pass_answer : Result PassAnswer Refusal → Answer
+pass_answer (Ok pass.Ready) = done ready
+pass_answer (Ok pass.SoftStall) = done soft_stall
+pass_answer (Ok pass.HardStall) = done hard_stall
+pass_answer (Ok pass.Sent) = done sent
+pass_answer (Err r) = refused_by r
 
-abbrev pub close_answer : CloseAnswer → Answer
-close_answer closing.Closed = done closed
-close_answer closing.NotNow = refused 10
-close_answer closing.NoRoom = refused 15
+abbrev pub arrival_answer : Result ArrivalAnswer Refusal → Answer
+arrival_answer (Ok arrival.Ignored) = done ignored
+arrival_answer (Ok arrival.Status) = done status
+arrival_answer (Ok arrival.Malformed) = done malformed
+arrival_answer (Ok arrival.MalformedLimit) = done malformed_limit
+arrival_answer (Ok (arrival.Iq event missing)) = heard event missing
+arrival_answer (Err r) = refused_by r
+
+abbrev pub take_answer : Result ℕ Refusal → Answer
+take_answer (Ok pairs) = took pairs
+take_answer (Err r) = refused_by r
+
+abbrev pub close_answer : Result ⊤ Refusal → Answer
+close_answer (Ok u) = done closed
+close_answer (Err r) = refused_by r
 
 -- what an answer tells of the stream
 pub record Tells : Type 0 where
@@ -87,12 +83,12 @@ pub record Tells : Type 0 where
   pub handed : ℕ
 
 abbrev pub silent : Bool → ℕ → Tells
-silent r n = record { refusal = r; event = none; missing = 0; handed = n }
+silent r n = record { refusal = r; event = None; missing = 0; handed = n }
 
 abbrev pub tells : Answer → Tells
 tells (refused number) = silent true 0
 tells (done word) = silent false 0
-tells (heard event missing) = record { refusal = false; event = some event; missing = missing; handed = 0 }
+tells (heard event missing) = record { refusal = false; event = Some event; missing = missing; handed = 0 }
 tells (took n) = silent false n
 tells (slot held) = silent false 0
 tells (flag stalled) = silent false 0

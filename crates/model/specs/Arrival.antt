@@ -1,5 +1,6 @@
 -- Arrival: malformed, ignored, status or valid I/Q. Definitions only.
-use Rattle.std.specs.Prelude.{ℕ, ◌+◌, min, List, [], ◌∷◌, nat_le}
+use Rattle.std.specs.Prelude.{ℕ, ◌+◌, min, List, [], ◌∷◌, nat_le, Option, Some, None}
+use Rattle.attenuator.specs.declared.Controller.{Controller}
 use Rattle.base.specs.Pick.{pick}
 use Rattle.base.specs.Rows.{unless}
 use Rattle.base.specs.Told.{Told, gives, refused}
@@ -19,8 +20,6 @@ use Rattle.model.specs.Table.{arrival_rows}
 use Rattle.model.specs.Sending.{stepped, wrote}
 use Rattle.model.specs.Pass.{shut}
 use Rattle.model.specs.Parts.{with_common, with_receiver, with_consecutive_malformed, with_health}
-use Rattle.model.specs.declared.session.Attenuation.{Attenuation}
-use Rattle.model.specs.declared.session.Attenuation.TheVariants.{Off, On}
 use Rattle.model.specs.declared.session.Common.{Common}
 use Rattle.model.specs.declared.session.Session.{Session}
 use Rattle.model.specs.Hearing.{event_of, restart_of, left_out, accepted_by, counted}
@@ -59,15 +58,15 @@ heard_iq st i d count =
 
 -- a status packet: with attenuation on and 60 octets long the controller hears its overload bit at the arrival's reading, and a
 -- step up writes its packet, whose clock takes the later reading; else it is ignored
-unfoldable pub overload : Session → Incoming → List ℕ → Attenuation → Told → Step Session
-overload s i d Off bits = without_packets (done ignored) d s
-overload s i d (On controller) (gives []) = without_packets (done ignored) d s
-overload s i d (On controller) (gives (bits ∷ vs)) =
+unfoldable pub overload : Session → Incoming → List ℕ → Option Controller → Told → Step Session
+overload s i d None bits = without_packets (done ignored) d s
+overload s i d (Some controller) (gives []) = without_packets (done ignored) d s
+overload s i d (Some controller) (gives (bits ∷ vs)) =
     wrote (done status) s d (stepped i.later (Controller.observed controller (overloaded bits) i.now) s.common)
-overload s i d (On controller) (refused k vs) = without_packets (done ignored) d s
+overload s i d (Some controller) (refused k vs) = without_packets (done ignored) d s
 
 unfoldable pub heard_status : Session → Incoming → List ℕ → Step Session
-heard_status s i d = overload s i d s.common.attenuator.attenuation (overload_told i.octets)
+heard_status s i d = overload s i d s.common.attenuation (overload_told i.octets)
 
 -- one more malformed: the consecutive count saturates
 unfoldable pub with_one_more : Common → Common

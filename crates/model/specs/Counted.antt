@@ -1,6 +1,6 @@
 -- Counters and slots over a list of calls from a session just opened: what was told adds up to what is counted, drained and pending.
 -- What is claimed of the session. Definitions only.
-use Rattle.std.specs.Prelude.{◌≡◌, ℕ, ◌+◌, ◌*◌, ◌%◌, ◌^◌, ◌<◌, Bool, true, false, T, List, [], ◌∷◌, Float}
+use Rattle.std.specs.Prelude.{◌≡◌, ℕ, ◌+◌, ◌*◌, ◌%◌, ◌^◌, ◌<◌, Bool, true, false, T, List, [], ◌∷◌, Float, Option, Some, None}
 use Rattle.base.specs.Pick.{pick}
 use Rattle.stream.specs.Size.{per_datagram}
 use Rattle.stream.specs.Elapsed.{below_half}
@@ -11,8 +11,6 @@ use Rattle.model.specs.Answer.{Word, begun, ready, soft_stall, hard_stall, sent,
 use Rattle.model.specs.Settings.{accepts}
 use Rattle.model.specs.Host.{Call, Begin, Pass, Arrival, Take, Close, TakeMissing, TakeDiscontinuity, TakeStalled, Reply, trace, final}
 use Rattle.model.specs.Session.{opened_with, session}
-use Rattle.model.specs.declared.receiver.Slot.{Slot}
-use Rattle.model.specs.declared.receiver.Slot.TheVariants.{Empty, Holds}
 use Rattle.model.specs.declared.session.Session.{Session}
 use Rattle.model.specs.declared.settings.Settings.{Settings}
 
@@ -84,9 +82,9 @@ total f (r ∷ rs) = f r.answer + total f rs
 
 -- ---- what the drains returned
 
-abbrev pub held_in : Slot → ℕ
-held_in Empty = 0
-held_in (Holds n) = n
+abbrev pub held_in : Option ℕ → ℕ
+held_in None = 0
+held_in (Some n) = n
 
 abbrev pub held_by : Answer → ℕ
 held_by (slot held) = held_in held

@@ -1,6 +1,6 @@
 -- What each call leaves as it was: the state after a call that is not refused is the one before it with these parts changed, and no
 -- others. What is claimed of every state and call. Definitions only.
-use Rattle.std.specs.Prelude.{◌≡◌, ℕ, true, List, [], ◌∷◌}
+use Rattle.std.specs.Prelude.{◌≡◌, ℕ, true, List, [], ◌∷◌, None}
 use Rattle.base.specs.Rows.{unless}
 use Rattle.stall.specs.Episode.{delivered, taken}
 use Rattle.model.specs.Host.{Call, Begin, Pass, Arrival, Take, Close, TakeMissing, TakeDiscontinuity, TakeStalled}
@@ -10,9 +10,7 @@ use Rattle.model.specs.Routing.{Routed, iq, status, ignored, malformed}
 use Rattle.model.specs.Sending.{raised}
 use Rattle.model.specs.Arrival.{route}
 use Rattle.model.specs.Pass.{shut}
-use Rattle.model.specs.Parts.{with_wait_entered, with_entered, with_missing, with_discontinuity, with_queue_pos, with_reading, with_parked, with_pending, with_read_returned, with_stall, with_seq, with_clocks, with_attenuator, with_health, with_consecutive_malformed, with_closed, with_common, with_receiver}
-use Rattle.model.specs.declared.receiver.Anchor.TheVariants.{Unset}
-use Rattle.model.specs.declared.receiver.Slot.TheVariants.{Empty}
+use Rattle.model.specs.Parts.{with_wait_entered, with_entered, with_missing, with_discontinuity, with_queue_pos, with_reading, with_parked, with_pending, with_read_returned, with_stall, with_seq, with_clocks, with_attenuation, with_health, with_consecutive_malformed, with_closed, with_common, with_receiver}
 use Rattle.model.specs.declared.receiver.Receiver.{Receiver}
 use Rattle.model.specs.declared.session.Common.{Common}
 use Rattle.model.specs.declared.session.Session.{Session}
@@ -48,7 +46,7 @@ counts_after counts (k ∷ ks) = counts_after (raised counts k) ks
 
 -- packets move counts and clocks, and a step the attenuator
 abbrev pub sent_from : Common → Common → Common
-sent_from c t = with_attenuator (with_clocks (with_seq c t.seq) t.clocks) t.attenuator
+sent_from c t = with_attenuation (with_clocks (with_seq c t.seq) t.clocks) t.attenuation
 
 -- the read's own anchor
 abbrev pub entered_as : Receiver → Receiver → Receiver
@@ -73,7 +71,7 @@ by_iq s t =
     let r = s.receiver in
     record {
       common = with_consecutive_malformed (with_health s.common t.common.health) 0;
-      receiver = with_reading (with_stall (with_read_returned t.receiver r.read_returned) r.stall) (with_wait_entered r.reading Unset);
+      receiver = with_reading (with_stall (with_read_returned t.receiver r.read_returned) r.stall) (with_wait_entered r.reading None);
     }
 
 -- a status packet: packets
@@ -117,10 +115,10 @@ by_call st (Take now buffer) t = control st (by_take st.session now t.session)
 by_call st (Close packets) t = control st (by_close st.session t.session)
 by_call st TakeMissing t =
     let r = st.session.receiver in
-    control st (with_receiver st.session (with_pending r (with_missing r.pending Empty)))
+    control st (with_receiver st.session (with_pending r (with_missing r.pending None)))
 by_call st TakeDiscontinuity t =
     let r = st.session.receiver in
-    control st (with_receiver st.session (with_pending r (with_discontinuity r.pending Empty)))
+    control st (with_receiver st.session (with_pending r (with_discontinuity r.pending None)))
 by_call st TakeStalled t =
     let r = st.session.receiver in
     control st (with_receiver st.session (with_stall r (taken r.stall).episode))

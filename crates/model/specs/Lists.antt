@@ -1,10 +1,9 @@
 -- Settings, datagrams and lists of calls that 01's edges, worked cases and trials are stated with. Definitions only.
-use Rattle.std.specs.Prelude.{◌≡◌, ℕ, false, List, [], ◌∷◌, ◌++◌, replicate, pos, refl, Float}
+use Rattle.std.specs.Prelude.{◌≡◌, ℕ, false, List, [], ◌∷◌, ◌++◌, replicate, pos, refl, Float, Some}
 use Rattle.std.specs.Float.{fin, binary64}
 use Rattle.std.specs.Float.Ieee.{of_int}
 use Rattle.octets.specs.Number.{be}
 use Rattle.tuning.specs.Board.{board_info}
-use Rattle.tuning.specs.declared.board.BoardId.TheVariants.{Number}
 use Rattle.model.specs.Host.{Incoming, Call, Begin, Arrival, Take}
 use Rattle.model.specs.declared.sender.Sender.{Sender}
 use Rattle.model.specs.declared.sender.Sender.TheVariants.{V4}
@@ -40,7 +39,7 @@ usual_at port =
       center_freq_hz = mhz7;
       port = port;
       radio_ip = radio;
-      board = board_info (Number 1);
+      board = board_info (Some 1);
       attenuation = Unsaid;
       soft_after = 4500000000;
       stall_after = 10000000000;

@@ -1,5 +1,6 @@
 -- Open: a session just opened, and the one beside a refusal. Definitions only.
-use Rattle.std.specs.Prelude.{ℕ, Bool, true, false, [], ◌∷◌, pos}
+use Rattle.std.specs.Prelude.{ℕ, Bool, true, false, [], ◌∷◌, pos, Option, Some, None}
+use Rattle.attenuator.specs.declared.Controller.{Controller}
 use Rattle.std.specs.Float.{fin}
 use Rattle.stream.specs.Size.{per_datagram}
 use Rattle.base.specs.Pick.{pick}
@@ -8,7 +9,6 @@ use Rattle.tuning.specs.Phase.{phase_word_of}
 use Rattle.tuning.specs.Rate.{khz_of}
 use Rattle.tuning.specs.Board.{board_info}
 use Rattle.sequence.specs.Tracker as Sequence
-use Rattle.tuning.specs.declared.board.BoardId.TheVariants.{Skipped}
 use Rattle.attenuator.specs.Controller as Controller
 use Rattle.stall.specs.Episode.{unarmed}
 use Rattle.health.specs.Counters.{none_counted}
@@ -16,13 +16,8 @@ use Rattle.model.specs.Settings.{accepts, attenuates}
 use Rattle.model.specs.Parts.{with_common, with_closed}
 use Rattle.model.specs.declared.settings.Settings.{Settings}
 use Rattle.model.specs.declared.settings.AttenuationChoice.TheVariants as choice
-use Rattle.model.specs.declared.receiver.Anchor.TheVariants.{Unset}
-use Rattle.model.specs.declared.receiver.Window.TheVariants.{Shut}
-use Rattle.model.specs.declared.receiver.Slot.TheVariants.{Empty}
 use Rattle.model.specs.declared.receiver.Receiver.{Receiver}
 use Rattle.model.specs.declared.session.Tuning.{Tuning}
-use Rattle.model.specs.declared.session.Attenuation.{Attenuation}
-use Rattle.model.specs.declared.session.Attenuation.TheVariants.{Off, On}
 use Rattle.model.specs.declared.session.Common.{Common}
 use Rattle.model.specs.declared.session.Session.{Session}
 
@@ -36,8 +31,8 @@ tuned khz s =
     }
 
 -- attenuation is 0
-unfoldable pub attenuation_at : Bool → ℕ → Attenuation
-attenuation_at on now = pick on (On (Controller.opened 0 now Controller.usual)) Off
+unfoldable pub attenuation_at : Bool → ℕ → Option Controller
+attenuation_at on now = pick on (Some (Controller.opened 0 now Controller.usual)) None
 
 -- the rate is so many kHz; every clock and the last accepted reading are the opening reading, and no stream has sent a packet
 unfoldable pub new_common : ℕ → Settings → ℕ → Common
@@ -47,7 +42,7 @@ new_common khz s now =
       tuning = tuned khz s;
       seq = 0 ∷ 0 ∷ 0 ∷ 0 ∷ [];
       clocks = record { high_priority = now; rx_tx_specific = now; general = now };
-      attenuator = record { attenuation = attenuation_at (attenuates s) now };
+      attenuation = attenuation_at (attenuates s) now;
       health = none_counted;
       consecutive_malformed = 0;
       last_reading = now;
@@ -60,9 +55,9 @@ new_receiver now =
     record {
       tracker = Sequence.new;
       queue_pos = per_datagram;
-      reading = record { wait_entered = Unset; entered = Unset };
-      parked = record { window = Shut };
-      pending = record { missing = Empty; discontinuity = Empty };
+      reading = record { wait_entered = None; entered = None };
+      parked = None;
+      pending = record { missing = None; discontinuity = None };
       last_valid_iq = now;
       last_accepted_iq = now;
       read_returned = now;
@@ -83,7 +78,7 @@ no_settings =
       center_freq_hz = fin false 0 (pos 0);
       port = 0;
       radio_ip = 0;
-      board = board_info Skipped;
+      board = board_info None;
       attenuation = choice.Off;
       soft_after = 0;
       stall_after = 0;

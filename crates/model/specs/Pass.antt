@@ -1,5 +1,5 @@
 -- Pass does the first that applies: Ready where samples wait, soft stall, hard stall, the packets that are due. Definitions only.
-use Rattle.std.specs.Prelude.{ℕ, ◌-◌, List, [], nat_le}
+use Rattle.std.specs.Prelude.{ℕ, ◌-◌, List, [], nat_le, None}
 use Rattle.base.specs.Pick.{pick}
 use Rattle.base.specs.Rows.{unless}
 use Rattle.stall.specs.Episode.{is_due, reported}
@@ -9,13 +9,12 @@ use Rattle.model.specs.State.{waits, quiet_since_of, at_reading, replied, refuse
 use Rattle.model.specs.Table.{pass_rows}
 use Rattle.model.specs.Sending.{due_packets, wrote}
 use Rattle.model.specs.Parts.{with_receiver, with_reading, with_stall, with_entered}
-use Rattle.model.specs.declared.receiver.Anchor.TheVariants.{Unset}
 use Rattle.model.specs.declared.receiver.Receiver.{Receiver}
 use Rattle.model.specs.declared.session.Session.{Session}
 
 -- the read closes; its wait anchor stays
 abbrev pub shut : Receiver → Receiver
-shut r = with_reading r (with_entered r.reading Unset)
+shut r = with_reading r (with_entered r.reading None)
 
 -- soft: the stall flag goes up, delivering ends, the read is closed; the last Take's time does not move
 unfoldable pub stall_soft : Session → List ℕ → Step Session

@@ -1,6 +1,7 @@
 -- The rules of times, numbers and slots: 01, Numbers in the stream and The session. They name no session, and the book of demand 3
 -- uses the same. Definitions only. A difference of readings is of natural numbers, and so never below 0.
-use Rattle.std.specs.Prelude.{ℕ, ◌+◌, ◌-◌, ◌*◌, min, max, Bool, true, false, List, [], ◌∷◌, nat_le, Float}
+use Rattle.std.specs.Prelude.{ℕ, ◌+◌, ◌-◌, ◌*◌, min, max, Bool, true, false, List, [], ◌∷◌, nat_le, Float, Option, Some, None}
+use Rattle.model.specs.declared.receiver.Parked.{Parked}
 use Rattle.stream.specs.Size.{per_datagram}
 use Rattle.base.specs.Pick.{pick}
 use Rattle.double.specs.Whole.{most}
@@ -9,36 +10,32 @@ use Rattle.sequence.specs.Tracker.{observed}
 use Rattle.sequence.specs.declared.SeqTracker.{SeqTracker}
 use Rattle.sequence.specs.declared.SeqEvent.{SeqEvent}
 use Rattle.sequence.specs.declared.SeqEvent.TheVariants.{InOrder, Gap, Stale, Restart}
-use Rattle.model.specs.declared.receiver.Window.{Window}
-use Rattle.model.specs.declared.receiver.Window.TheVariants.{Shut, Open}
-use Rattle.model.specs.declared.receiver.Slot.{Slot}
-use Rattle.model.specs.declared.receiver.Slot.TheVariants.{Empty, Holds}
 use Rattle.model.specs.declared.receiver.Pending.{Pending}
 use Rattle.model.specs.Parts.{with_missing, with_discontinuity}
 
 -- ---- the park window
 
 -- after a pause: a window of `size` arrivals opens, anchored at the last Take; an open one is full again, all else of it stays
-unfoldable pub refilled : ℕ → ℕ → Window → Window
-refilled size taken Shut = Open taken 0 size
-refilled size taken (Open from accounted left) = Open from accounted size
+unfoldable pub refilled : ℕ → ℕ → Option Parked → Option Parked
+refilled size taken None = Some (record { from = taken; accounted = 0; left = size })
+refilled size taken (Some w) = Some (record { from = w.from; accounted = w.accounted; left = size })
 
 -- a Begin comes after a pause if the last Take is at least 100 ms ago
-unfoldable pub begun : ℕ → ℕ → Window → ℕ → Window
+unfoldable pub begun : ℕ → ℕ → Option Parked → ℕ → Option Parked
 begun size taken w now = pick (nat_le 100000000 (now - taken)) (refilled size taken w) w
 
 -- an accepted arrival's 238 samples and its missing go into the account; it is one of the window's arrivals: the last closes it
-unfoldable pub used : Window → ℕ → Window
-used Shut missing = Shut
-used (Open from accounted left) missing =
-    pick (nat_le left 1) Shut (Open from (min (accounted + (per_datagram + missing)) most) (left - 1))
+unfoldable pub used : Option Parked → ℕ → Option Parked
+used None missing = None
+used (Some w) missing =
+    pick (nat_le w.left 1) None (Some (record { from = w.from; accounted = min (w.accounted + (per_datagram + missing)) most; left = w.left - 1 }))
 
 -- ---- elapsed time and the jump limit
 
 -- E: how long ago an arrival was last accepted; in a park window, if larger, the time since its anchor less that of its account
-unfoldable pub elapsed : Float → ℕ → Window → ℕ → ℕ
-elapsed rate accepted Shut now = now - accepted
-elapsed rate accepted (Open from accounted left) now = max (now - accepted) (now - from - account_time accounted rate)
+unfoldable pub elapsed : Float → ℕ → Option Parked → ℕ → ℕ
+elapsed rate accepted None now = now - accepted
+elapsed rate accepted (Some w) now = max (now - accepted) (now - w.from - account_time w.accounted rate)
 
 -- a gap over the jump limit is a restart
 unfoldable pub capped : ℕ → SeqEvent → SeqEvent
@@ -69,10 +66,10 @@ uncovered rate bound t waiting = bound - covered_time (min (backlog (jump_limit 
 
 -- the time that a restart misses: E; in a window, E as it is at the later reading with this arrival as the last accepted one, and
 -- without the time that what waits covers, by the tracker as this arrival left it
-unfoldable pub outage : Float → ℕ → Window → ℕ → ℕ → SeqTracker → List ℕ → ℕ
-outage rate accepted Shut now later t waiting = elapsed rate accepted Shut now
-outage rate accepted (Open from accounted left) now later t waiting =
-    uncovered rate (elapsed rate now (Open from accounted left) later) t waiting
+unfoldable pub outage : Float → ℕ → Option Parked → ℕ → ℕ → SeqTracker → List ℕ → ℕ
+outage rate accepted None now later t waiting = elapsed rate accepted None now
+outage rate accepted (Some w) now later t waiting =
+    uncovered rate (elapsed rate now (Some w) later) t waiting
 
 -- ---- an arrival's missing, and where it is told
 
@@ -84,9 +81,9 @@ missing_of Stale restart = 0
 missing_of Restart restart = restart
 
 -- a slot with n more: outside 01's domain it saturates
-unfoldable pub added : Slot → ℕ → Slot
-added Empty n = Holds n
-added (Holds m) n = Holds (min (m + n) most)
+unfoldable pub added : Option ℕ → ℕ → Option ℕ
+added None n = Some n
+added (Some m) n = Some (min (m + n) most)
 
 -- a gap's missing goes to pending_missing if it is below half the rate; if not, and for a restart, to pending_discontinuity
 unfoldable pub pending_after : Float → SeqEvent → ℕ → Pending → Pending

@@ -1,19 +1,17 @@
 -- Packets due and written: keepalives, an attenuation step's packet, and those of Close. Definitions only.
-use Rattle.std.specs.Prelude.{ℕ, ◌+◌, ◌-◌, ◌%◌, ◌^◌, Bool, true, false, List, [], ◌∷◌, ◌++◌, nat_le, slice_index, slice_set}
+use Rattle.std.specs.Prelude.{ℕ, ◌+◌, ◌-◌, ◌%◌, ◌^◌, Bool, true, false, List, [], ◌∷◌, ◌++◌, nat_le, slice_index, slice_set, Option, Some, None}
+use Rattle.attenuator.specs.declared.Controller.{Controller}
 use Rattle.base.specs.Pick.{pick}
 use Rattle.octets.specs.Written.{written}
 use Rattle.wire.specs.Packet.{general_packet, rx_packet, tx_packet, high_packet}
 use Rattle.attenuator.specs.Controller.{ticked}
 use Rattle.attenuator.specs.declared.AttenuationStep.{AttenuationStep}
-use Rattle.attenuator.specs.declared.AttenuationStep.TheVariants as step
-use Rattle.attenuator.specs.declared.Stepped.{Stepped}
+use Rattle.attenuator.specs.Controller.{Stepped}
 use Rattle.wire.specs.declared.command.Stream.{Stream}
 use Rattle.wire.specs.declared.command.Stream.TheVariants.{General, RxSpecific, TxSpecific, HighPriority}
-use Rattle.model.specs.declared.session.Attenuation.{Attenuation}
-use Rattle.model.specs.declared.session.Attenuation.TheVariants.{Off, On}
 use Rattle.model.specs.declared.session.Common.{Common}
 use Rattle.wire.specs.Command.{offset_of}
-use Rattle.model.specs.Parts.{with_high_priority, with_rx_tx_specific, with_general, with_seq, with_clocks, with_attenuator, with_common}
+use Rattle.model.specs.Parts.{with_high_priority, with_rx_tx_specific, with_general, with_seq, with_clocks, with_attenuation, with_common}
 use Rattle.model.specs.Answer.{Answer}
 use Rattle.model.specs.Host.{Step}
 use Rattle.model.specs.State.{replied}
@@ -34,9 +32,9 @@ then s f =
     record { common = (f s.common).common; streams = s.streams ++ (f s.common).streams; octets = s.octets ++ (f s.common).octets }
 
 -- the level in dB that the packets carry: 0 with attenuation off
-abbrev pub level : Attenuation → ℕ
-level Off = 0
-level (On controller) = controller.db
+abbrev pub level : Option Controller → ℕ
+level None = 0
+level (Some controller) = controller.db
 
 -- a stream's next count
 abbrev pub count_of : Stream → Common → ℕ
@@ -48,7 +46,7 @@ packet_of General run c = general_packet (count_of General c) c.settings.board
 packet_of RxSpecific run c = rx_packet (count_of RxSpecific c) c.settings.board c.tuning.rate_khz
 packet_of TxSpecific run c = tx_packet (count_of TxSpecific c)
 packet_of HighPriority run c =
-    high_packet (count_of HighPriority c) run c.tuning.phase_word c.tuning.alex.alex0 c.tuning.alex.alex1 (level c.attenuator.attenuation)
+    high_packet (count_of HighPriority c) run c.tuning.phase_word c.tuning.alex.alex0 c.tuning.alex.alex1 (level c.attenuation)
 
 -- a stream's own count goes up by one, modulo 2^32; the other three stay
 abbrev pub raised : List ℕ → ℕ → List ℕ
@@ -95,22 +93,22 @@ keepalive now c = then (high_if_due now c) (λ (d : Common). then (rx_tx_if_due 
 -- ---- the attenuator
 
 -- a step's high priority packet, with the new level, which restarts the 100 ms
-unfoldable pub applied : ℕ → AttenuationStep → Common → Sending
-applied now step.NoStep c = idle c
-applied now (step.Step from to cause) c = send_high now c
+unfoldable pub applied : ℕ → Option AttenuationStep → Common → Sending
+applied now None c = idle c
+applied now (Some s) c = send_high now c
 
 -- what the controller made of a reading or a status packet; its packet's clock takes `now`
 unfoldable pub stepped : ℕ → Stepped → Common → Sending
-stepped now s c = applied now s.step (with_attenuator c (record { attenuation = On s.controller }))
+stepped now s c = applied now s.step (with_attenuation c (Some s.controller))
 
 -- a step down; with attenuation off there is none
-unfoldable pub tick : ℕ → Attenuation → Common → Sending
-tick now Off c = idle c
-tick now (On controller) c = stepped now (ticked controller now) c
+unfoldable pub tick : ℕ → Option Controller → Common → Sending
+tick now None c = idle c
+tick now (Some controller) c = stepped now (ticked controller now) c
 
 -- Pass: keepalives, then an attenuation step's packet
 unfoldable pub due_packets : ℕ → Common → Sending
-due_packets now c = then (keepalive now c) (λ (d : Common). tick now d.attenuator.attenuation d)
+due_packets now c = then (keepalive now c) (λ (d : Common). tick now d.attenuation d)
 
 -- Close turns run off, by two high priority packets
 unfoldable pub stop_packets : Common → Sending

@@ -1,5 +1,7 @@
 -- The settings: what is answered to them, and what the attenuation choice means. Definitions only.
-use Rattle.std.specs.Prelude.{◌≡◌, ◌≤◌, Bool, true, false, [], ◌∷◌}
+use Rattle.std.specs.Prelude.{ℕ, ◌≡◌, ◌≤◌, Bool, true, false, [], ◌∷◌, Result, Ok, Err}
+use Rattle.model.specs.declared.settings.SettingsError.{SettingsError}
+use Rattle.model.specs.declared.settings.SettingsError.TheVariants.{DdcCount, CenterCount, Rate, Center, CenterTooHigh, PortZero, Port}
 use Rattle.base.specs.Rows.{unless}
 use Rattle.base.specs.Told.{Told, gives, refused}
 use Rattle.tuning.specs.Centre.{whole_centre, below_nyquist}
@@ -8,8 +10,6 @@ use Rattle.model.specs.Table.{settings_rows}
 use Rattle.model.specs.declared.settings.Settings.{Settings}
 use Rattle.model.specs.declared.settings.AttenuationChoice.{AttenuationChoice}
 use Rattle.model.specs.declared.settings.AttenuationChoice.TheVariants.{Off, On, Unsaid}
-use Rattle.model.specs.declared.settings.SettingsAnswer.{SettingsAnswer}
-use Rattle.model.specs.declared.settings.SettingsAnswer.TheVariants.{Accepted, DdcCount, CenterCount, Rate, Center, CenterTooHigh, PortZero, Port}
 
 -- validate_protocol2: by the first row that applies, else the rate in kHz
 unfoldable pub settings_told : Settings → Told
@@ -37,15 +37,19 @@ pub record Plain (s : Settings) : Type 0 where
   pub lowest : 1 ≤ s.port
   pub highest : s.port ≤ 65524
 
-abbrev pub settings_answer : SettingsAnswer → Told
-settings_answer (Accepted khz) = gives (khz ∷ [])
-settings_answer DdcCount = refused 1 []
-settings_answer CenterCount = refused 2 []
-settings_answer Rate = refused 3 []
-settings_answer Center = refused 4 []
-settings_answer CenterTooHigh = refused 5 []
-settings_answer PortZero = refused 19 []
-settings_answer Port = refused 6 []
+-- the row of 01 or 02 that refuses
+abbrev pub settings_number : SettingsError → ℕ
+settings_number DdcCount = 1
+settings_number CenterCount = 2
+settings_number Rate = 3
+settings_number Center = 4
+settings_number CenterTooHigh = 5
+settings_number PortZero = 19
+settings_number Port = 6
+
+abbrev pub settings_answer : Result ℕ SettingsError → Told
+settings_answer (Ok khz) = gives (khz ∷ [])
+settings_answer (Err e) = refused (settings_number e) []
 
 -- off, on or unsaid; unsaid means off
 abbrev pub chosen : AttenuationChoice → Bool

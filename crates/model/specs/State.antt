@@ -1,12 +1,10 @@
 -- The whole state of a session: its control, and the samples that are lent beside it. What of it the calls ask. Definitions only.
-use Rattle.std.specs.Prelude.{ℕ, ◌-◌, ◌*◌, max, Bool, true, false, not, ◌||◌, List, [], drop, nat_lt, Float}
+use Rattle.std.specs.Prelude.{ℕ, ◌-◌, ◌*◌, max, Bool, true, false, not, ◌||◌, List, [], drop, nat_lt, Float, Option, Some, None}
 use Rattle.stream.specs.Size.{per_datagram}
 use Rattle.model.specs.Answer.{Answer, refused}
 use Rattle.model.specs.Sample.{Sample, pairs}
 use Rattle.model.specs.Host.{Step}
 use Rattle.model.specs.Parts.{with_common, with_last_reading}
-use Rattle.model.specs.declared.receiver.Anchor.{Anchor}
-use Rattle.model.specs.declared.receiver.Anchor.TheVariants.{Unset, At}
 use Rattle.model.specs.declared.receiver.Receiver.{Receiver}
 use Rattle.model.specs.declared.session.Session.{Session}
 
@@ -27,17 +25,17 @@ waits r = nat_lt 0 (left r)
 unfoldable pub waiting_in : Receiver → List Float → List Sample
 waiting_in r samples = pairs (drop (2 * r.queue_pos) samples)
 
-abbrev pub is_set : Anchor → Bool
-is_set Unset = false
-is_set (At t) = true
+abbrev pub is_set : Option ℕ → Bool
+is_set None = false
+is_set (Some t) = true
 
 -- a read is open where it has its anchor
 abbrev pub is_open : Receiver → Bool
 is_open r = is_set r.reading.entered
 
-abbrev pub or_zero : Anchor → ℕ
-or_zero Unset = 0
-or_zero (At t) = t
+abbrev pub or_zero : Option ℕ → ℕ
+or_zero None = 0
+or_zero (Some t) = t
 
 -- when quiet began: at the last valid I/Q datagram or at the read's anchor, whichever is later
 unfoldable pub quiet_since_of : Receiver → ℕ

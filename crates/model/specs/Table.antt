@@ -1,7 +1,6 @@
 -- 01's table of refusals, with the row of request 2026-01: the rows of the settings and of each call, in order, each with its number
 -- and its test. Definitions only.
-use Rattle.std.specs.Prelude.{ℕ, not, List, [], ◌∷◌, length, ◌==◌, nat_lt, Float}
-use Rattle.std.proofs.Math.Option.{Option, some, none}
+use Rattle.std.specs.Prelude.{ℕ, not, List, [], ◌∷◌, length, ◌==◌, nat_lt, Float, Option, Some, None}
 use Rattle.base.specs.Rows.{Row, row}
 use Rattle.base.specs.Told.{Told, gives}
 use Rattle.stream.specs.Size.{max_buffered}
@@ -85,13 +84,13 @@ rows_of st TakeStalled = []
 -- ---- the number that an answer is a refusal by
 
 abbrev pub refusal_of : Answer → Option ℕ
-refusal_of (refused number) = some number
-refusal_of (done word) = none
-refusal_of (heard event missing) = none
-refusal_of (took pairs) = none
-refusal_of (slot held) = none
-refusal_of (flag stalled) = none
+refusal_of (refused number) = Some number
+refusal_of (done word) = None
+refusal_of (heard event missing) = None
+refusal_of (took pairs) = None
+refusal_of (slot held) = None
+refusal_of (flag stalled) = None
 
 abbrev pub refusal_in : Told → Option ℕ
-refusal_in (gives vs) = none
-refusal_in (Told.refused k vs) = some k
+refusal_in (gives vs) = None
+refusal_in (Told.refused k vs) = Some k

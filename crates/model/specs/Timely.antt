@@ -1,7 +1,7 @@
 -- Keepalives, stalls and steps over a list of calls from a session just opened: what each call is to list, and what a Pass is to tell,
 -- worked out from the calls and what their answers tell of the stream. A single claim, about any host. Definitions only.
-use Rattle.std.specs.Prelude.{◌≡◌, ℕ, ◌-◌, max, Bool, true, false, ◌&&◌, T, List, [], ◌∷◌, ◌++◌, nat_le, nat_lt}
-use Rattle.std.proofs.Math.Option.{Option, some, none}
+use Rattle.std.specs.Prelude.{◌≡◌, ℕ, ◌-◌, max, Bool, true, false, ◌&&◌, T, List, [], ◌∷◌, ◌++◌, nat_le, nat_lt, Option, Some, None}
+use Rattle.attenuator.specs.declared.Controller.{Controller}
 use Rattle.base.specs.Pick.{pick}
 use Rattle.base.specs.Told.{Told, gives, refused}
 use Rattle.stream.specs.Size.{per_datagram}
@@ -9,8 +9,7 @@ use Rattle.wire.specs.Status.{overload_told, overloaded}
 use Rattle.sequence.specs.declared.SeqEvent.{SeqEvent}
 use Rattle.attenuator.specs.Controller as Controller
 use Rattle.attenuator.specs.declared.AttenuationStep.{AttenuationStep}
-use Rattle.attenuator.specs.declared.AttenuationStep.TheVariants.{NoStep, Step}
-use Rattle.attenuator.specs.declared.Stepped.{Stepped}
+use Rattle.attenuator.specs.Controller.{Stepped}
 use Rattle.model.specs.Answer.{ready, soft_stall, hard_stall, sent, done, Tells, tells}
 use Rattle.wire.specs.Command.{offset_of}
 use Rattle.model.specs.Rules.{is_stale}
@@ -22,10 +21,6 @@ use Rattle.model.specs.Sending.{high_every, rx_tx_every, general_every}
 use Rattle.model.specs.Begin.{or_at}
 use Rattle.model.specs.Open.{attenuation_at}
 use Rattle.wire.specs.declared.command.Stream.TheVariants.{General, RxSpecific, TxSpecific, HighPriority}
-use Rattle.model.specs.declared.receiver.Anchor.{Anchor}
-use Rattle.model.specs.declared.receiver.Anchor.TheVariants.{Unset}
-use Rattle.model.specs.declared.session.Attenuation.{Attenuation}
-use Rattle.model.specs.declared.session.Attenuation.TheVariants.{Off, On}
 use Rattle.model.specs.declared.session.Clocks.{Clocks}
 use Rattle.model.specs.declared.settings.Settings.{Settings}
 
@@ -35,9 +30,9 @@ use Rattle.model.specs.declared.settings.Settings.{Settings}
 -- when datagrams are waited for, and this read's anchor; delivering; how many samples wait
 pub record Watch : Type 0 where
   pub clocks : Clocks
-  pub attenuation : Attenuation
+  pub attenuation : Option Controller
   pub valid : ℕ
-  pub wait : Anchor
+  pub wait : Option ℕ
   pub anchor : ℕ
   pub delivering : Bool
   pub waiting : ℕ
@@ -49,7 +44,7 @@ woken s now =
       clocks = record { high_priority = now; rx_tx_specific = now; general = now };
       attenuation = attenuation_at (attenuates s) now;
       valid = now;
-      wait = Unset;
+      wait = None;
       anchor = 0;
       delivering = false;
       waiting = 0;
@@ -87,32 +82,32 @@ by_pass s w now waits soft hard packets = pick (nat_lt 0 w.waiting) waits (pick 
 -- ---- the attenuator's step, and the attenuator after it
 
 pub record Turn : Type 0 where
-  pub step : AttenuationStep
-  pub attenuation : Attenuation
+  pub step : Option AttenuationStep
+  pub attenuation : Option Controller
 
 abbrev pub turned : Stepped → Turn
-turned s = record { step = s.step; attenuation = On s.controller }
+turned s = record { step = s.step; attenuation = Some s.controller }
 
-abbrev pub unturned : Attenuation → Turn
-unturned a = record { step = NoStep; attenuation = a }
+abbrev pub unturned : Option Controller → Turn
+unturned a = record { step = None; attenuation = a }
 
 -- at a Pass that reaches the packets
-abbrev pub ticking : Attenuation → ℕ → Turn
-ticking Off now = unturned Off
-ticking (On controller) now = turned (Controller.ticked controller now)
+abbrev pub ticking : Option Controller → ℕ → Turn
+ticking None now = unturned None
+ticking (Some controller) now = turned (Controller.ticked controller now)
 
 -- at a status packet, by its overload bits
-abbrev pub hearing : Attenuation → Told → ℕ → Turn
-hearing Off bits now = unturned Off
-hearing (On controller) (gives []) now = unturned (On controller)
-hearing (On controller) (gives (bits ∷ vs)) now = turned (Controller.observed controller (overloaded bits) now)
-hearing (On controller) (refused k vs) now = unturned (On controller)
+abbrev pub hearing : Option Controller → Told → ℕ → Turn
+hearing None bits now = unturned None
+hearing (Some controller) (gives []) now = unturned (Some controller)
+hearing (Some controller) (gives (bits ∷ vs)) now = turned (Controller.observed controller (overloaded bits) now)
+hearing (Some controller) (refused k vs) now = unturned (Some controller)
 
 -- ---- what a call is to list
 
-abbrev pub is_step : AttenuationStep → Bool
-is_step NoStep = false
-is_step (Step from to cause) = true
+abbrev pub is_step : Option AttenuationStep → Bool
+is_step None = false
+is_step (Some s) = true
 
 -- a step's high priority packet
 abbrev pub step_streams : Turn → List ℕ
@@ -200,8 +195,8 @@ serving w delivering waiting =
 
 -- a stale datagram brings no samples
 abbrev pub samples_after : Watch → Option SeqEvent → ℕ
-samples_after w none = w.waiting
-samples_after w (some event) = pick (is_stale event) w.waiting per_datagram
+samples_after w None = w.waiting
+samples_after w (Some event) = pick (is_stale event) w.waiting per_datagram
 
 -- valid I/Q: its reading, an empty wait anchor, and its samples
 abbrev pub hearing_iq : Watch → ℕ → Option SeqEvent → Watch
@@ -210,7 +205,7 @@ hearing_iq w now event =
       clocks = w.clocks;
       attenuation = w.attenuation;
       valid = now;
-      wait = Unset;
+      wait = None;
       anchor = w.anchor;
       delivering = w.delivering;
       waiting = samples_after w event;

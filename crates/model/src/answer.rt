@@ -1,26 +1,64 @@
 // What Open and each call answer, with the session after it. 01's number or words of each case: specs/Answer and specs/Settings.
+ghost use Rattle.std.specs.Prelude.{◌≡◌};
+ghost use Rattle.model.specs.Answer.{refusal_number};
+
 use super::command::Streams;
-use super::receiver::Slot;
 use super::session::Session;
-use super::settings::SettingsAnswer;
+use super::settings::SettingsError;
 use sequence::SeqEvent;
 
+// Why a call is refused: 01's rows from 10 to 17. A refused call changes nothing.
 #[derive(Clone, Copy)]
-pub struct Opened {
-    pub answer: SettingsAnswer,
+pub enum Refusal {
+    NotNow,
+    ReadingFell,
+    SamplesWait,
+    LaterFell,
+    TooManyWaiting,
+    // the buffer lent for packets is too short
+    NoPacketRoom,
+    // the buffer lent for samples is too short
+    NoSampleRoom,
+    NothingWaits,
+}
+
+impl Refusal {
+    // 01's number.
+    pub fn number(self) -> u64
+        ensures { result ≡ refusal_number self }
+    {
+        match self {
+            Refusal::NotNow => 10,
+            Refusal::ReadingFell => 11,
+            Refusal::SamplesWait => 12,
+            Refusal::LaterFell => 13,
+            Refusal::TooManyWaiting => 14,
+            Refusal::NoPacketRoom => 15,
+            Refusal::NoSampleRoom => 16,
+            Refusal::NothingWaits => 17,
+        }
+    }
+}
+
+// What a call answers, the streams that it wrote, and the session after it. A refused call wrote none, and the session is as it was.
+#[derive(Clone, Copy)]
+pub struct Answered<A> {
+    pub answer: Result<A, Refusal>,
+    pub streams: Streams,
+    pub session: Session,
+}
+
+// What a drain returns, and the session after it.
+#[derive(Clone, Copy)]
+pub struct Drained<A> {
+    pub held: A,
     pub session: Session,
 }
 
 #[derive(Clone, Copy)]
-pub enum BeginAnswer {
-    Begun,
-    NotNow,
-    ReadingFell,
-}
-
-#[derive(Clone, Copy)]
-pub struct Begun {
-    pub answer: BeginAnswer,
+pub struct Opened {
+    // the rate in kHz
+    pub answer: Result<u16, SettingsError>,
     pub session: Session,
 }
 
@@ -30,16 +68,6 @@ pub enum PassAnswer {
     SoftStall,
     HardStall,
     Sent,
-    NotNow,
-    ReadingFell,
-    NoRoom,
-}
-
-#[derive(Clone, Copy)]
-pub struct Passed {
-    pub answer: PassAnswer,
-    pub streams: Streams,
-    pub session: Session,
 }
 
 #[derive(Clone, Copy)]
@@ -52,61 +80,4 @@ pub enum ArrivalAnswer {
     MalformedLimit,
     // a valid I/Q datagram: the event, and this arrival's missing
     Iq { event: SeqEvent, missing: u64 },
-    NotNow,
-    ReadingFell,
-    SamplesWait,
-    LaterFell,
-    TooManyWaiting,
-    NoRoom,
-}
-
-#[derive(Clone, Copy)]
-pub struct Arrived {
-    pub answer: ArrivalAnswer,
-    pub streams: Streams,
-    pub session: Session,
-}
-
-#[derive(Clone, Copy)]
-pub enum TakeAnswer {
-    // so many pairs
-    Took(usize),
-    NotNow,
-    ReadingFell,
-    NoRoom,
-    NothingWaits,
-}
-
-#[derive(Clone, Copy)]
-pub struct Handed {
-    pub answer: TakeAnswer,
-    pub session: Session,
-}
-
-#[derive(Clone, Copy)]
-pub enum CloseAnswer {
-    Closed,
-    NotNow,
-    NoRoom,
-}
-
-#[derive(Clone, Copy)]
-pub struct Ended {
-    pub answer: CloseAnswer,
-    pub streams: Streams,
-    pub session: Session,
-}
-
-// What a drain of a slot gave.
-#[derive(Clone, Copy)]
-pub struct Drained {
-    pub slot: Slot,
-    pub session: Session,
-}
-
-// What the drain of the stall flag gave.
-#[derive(Clone, Copy)]
-pub struct StallTaken {
-    pub stalled: bool,
-    pub session: Session,
 }

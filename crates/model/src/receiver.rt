@@ -2,52 +2,31 @@
 use sequence::SeqTracker;
 use stall::StallEpisode;
 
-// A reading that was taken, or that there is none.
-#[derive(Clone, Copy)]
-pub enum Anchor {
-    Unset,
-    At(u64),
-}
-
 // The read and the wait that it belongs to.
 #[derive(Clone, Copy)]
 pub struct Reading {
     // the wait anchor: set by the first Begin of a wait, emptied by the next valid I/Q
-    pub wait_entered: Anchor,
-    // this read's own copy of it; unset where no read is open
-    pub entered: Anchor,
+    pub wait_entered: Option<u64>,
+    // this read's own copy of it; none where no read is open
+    pub entered: Option<u64>,
 }
 
-#[derive(Clone, Copy)]
-pub enum Window {
-    Shut,
-    Open {
-        // the Take after which the caller paused
-        from: u64,
-        // samples accepted and told missing since
-        accounted: u64,
-        // accepted arrivals until it closes
-        left: u64,
-    },
-}
-
-// An enum that is a field is not stored to, so it stands in a struct of its own.
+// An open park window.
 #[derive(Clone, Copy)]
 pub struct Parked {
-    pub window: Window,
+    // the Take after which the caller paused
+    pub from: u64,
+    // samples accepted and told missing since
+    pub accounted: u64,
+    // accepted arrivals until it closes
+    pub left: u64,
 }
 
-// A slot that is empty and one that holds 0 differ.
-#[derive(Clone, Copy)]
-pub enum Slot {
-    Empty,
-    Holds(u64),
-}
-
+// What is missing and not drained yet. Nothing, and 0 samples, differ.
 #[derive(Clone, Copy)]
 pub struct Pending {
-    pub missing: Slot,
-    pub discontinuity: Slot,
+    pub missing: Option<u64>,
+    pub discontinuity: Option<u64>,
 }
 
 #[derive(Clone, Copy)]
@@ -56,7 +35,8 @@ pub struct Receiver {
     // pairs of the lent samples that were handed out; at 238 none wait
     pub queue_pos: usize,
     pub reading: Reading,
-    pub parked: Parked,
+    // the park window, where one is open
+    pub parked: Option<Parked>,
     pub pending: Pending,
     // the reading of the last valid I/Q, Stale too
     pub last_valid_iq: u64,

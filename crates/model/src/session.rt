@@ -22,25 +22,14 @@ pub struct Clocks {
 }
 
 #[derive(Clone, Copy)]
-pub enum Attenuation {
-    Off,
-    On(Controller),
-}
-
-// An enum that is a field is not stored to, so it stands in a struct of its own.
-#[derive(Clone, Copy)]
-pub struct Attenuator {
-    pub attenuation: Attenuation,
-}
-
-#[derive(Clone, Copy)]
 pub struct Common {
     pub settings: Settings,
     pub tuning: Tuning,
     // the next count of each command stream, by its offset
     pub seq: [u32; 4],
     pub clocks: Clocks,
-    pub attenuator: Attenuator,
+    // the controller, with automatic attenuation on
+    pub attenuation: Option<Controller>,
     pub health: InputHealthCounters,
     pub consecutive_malformed: u32,
     // the last accepted reading

@@ -1,4 +1,7 @@
 // What a caller asks of a session. 01, The session.
+ghost use Rattle.std.specs.Prelude.{◌≡◌};
+ghost use Rattle.model.specs.Settings.{settings_number};
+
 use tuning::board::BoardInfo;
 
 // Automatic attenuation. What unsaid means is the definition's to say (specs/Settings).
@@ -30,10 +33,9 @@ pub struct Settings {
     pub max_consecutive_malformed: u32,
 }
 
+// The first row of the settings that applies.
 #[derive(Clone, Copy)]
-pub enum SettingsAnswer {
-    // the rate in kHz
-    Accepted(u16),
+pub enum SettingsError {
     DdcCount,
     CenterCount,
     Rate,
@@ -43,4 +45,21 @@ pub enum SettingsAnswer {
     PortZero,
     // a port that leaves no room for the radio's port map
     Port,
+}
+
+impl SettingsError {
+    // Its row in the tables of 01 and 02.
+    pub fn number(self) -> u64
+        ensures { result ≡ settings_number self }
+    {
+        match self {
+            SettingsError::DdcCount => 1,
+            SettingsError::CenterCount => 2,
+            SettingsError::Rate => 3,
+            SettingsError::Center => 4,
+            SettingsError::CenterTooHigh => 5,
+            SettingsError::PortZero => 19,
+            SettingsError::Port => 6,
+        }
+    }
 }

@@ -1,4 +1,5 @@
 -- What a writer leaves in a lent buffer: its length and its places, one writer after another, a run of stores, a lent part. Assumes nothing.
+use borrow.Rule.Slice.PartMut.{put_mid}
 use Prim.Native.Nat.{ℕ, zero, suc, ◌+◌, ◌-◌, ◌%◌, ◌≤◌, ◌<◌}
 use mathlib.Core.Path.{◌≡◌, sym, ap, ◌∙◌}
 use mathlib.Core.Logic.{◌⊎◌, inl, inr, ⊎_elim}
@@ -134,3 +135,8 @@ module _ {A : Type 0} where
 -- one store of an octet
 pub set-be : (d : List ℕ) (i v : ℕ) → i < length d → v < 256 → set d i v ≡ written d i (be 1 v)
 set-be d i v h l = set-written d i v h ∙ ap (λ (b : ℕ). written d i (b ∷ [])) (sym (ap (λ (n : ℕ). n % 256) (div-one v) ∙ mod-eq_of_lt l))
+
+-- what std leaves of a buffer of which a part was lent and written
+pub part-written : {A : Type 0} (d out : List A) (at n : ℕ) → n ≡ length out → put_mid at n d out ≡ written d at out
+unfolding written
+part-written d out at n e = ap (λ l. take at d ++ (out ++ l)) (drop-drop n at d ∙ ap (λ (k : ℕ). drop (at + k) d) e)

@@ -1,4 +1,8 @@
 -- Open, from the parts that the code makes a session of. Assumes nothing.
+use Rattle.std.specs.Prelude.{Option, Result, Ok, Err}
+use Rattle.model.specs.declared.settings.SettingsError.{SettingsError}
+use Rattle.model.specs.declared.settings.SettingsError.TheVariants.{DdcCount, CenterCount, Rate, Center, CenterTooHigh, PortZero, Port}
+use Rattle.attenuator.specs.declared.Controller.{Controller}
 use Prim.Native.Nat.{ℕ}
 use mathlib.Core.Path.{◌≡◌, refl, sym, ap, ◌∙◌}
 use mathlib.Core.Bool.{Bool, true, false}
@@ -15,9 +19,6 @@ use Rattle.model.specs.Open.{tuned, attenuation_at, new_common, new_session, no_
 use Rattle.model.specs.Parts.{with_common, with_closed}
 use Rattle.model.specs.declared.answer.Opened.{Opened}
 use Rattle.model.specs.declared.settings.Settings.{Settings}
-use Rattle.model.specs.declared.settings.SettingsAnswer.{SettingsAnswer}
-use Rattle.model.specs.declared.settings.SettingsAnswer.TheVariants.{Accepted, DdcCount, CenterCount, Rate, Center, CenterTooHigh, PortZero, Port}
-use Rattle.model.specs.declared.session.Attenuation.{Attenuation}
 use Rattle.model.specs.declared.session.Session.{Session}
 use Rattle.model.specs.declared.session.Tuning.{Tuning}
 use Rattle.opening.specs.Opens.{Opens}
@@ -35,14 +36,14 @@ tuned-so khz s phase alex p a = ap (λ (n : ℕ). tuning khz n alex) p ∙ ap (t
 
 -- ---- what is common
 
-pub common-so : (khz : ℕ) (s : Settings) (now : ℕ) (t : Tuning) (a : Attenuation) (h : InputHealthCounters) → t ≡ tuned khz s → a ≡ attenuation_at (attenuates s) now
+pub common-so : (khz : ℕ) (s : Settings) (now : ℕ) (t : Tuning) (a : Option Controller) (h : InputHealthCounters) → t ≡ tuned khz s → a ≡ attenuation_at (attenuates s) now
     → h ≡ none_counted
     → record {
       settings = s;
       tuning = t;
       seq = 0 ∷ 0 ∷ 0 ∷ 0 ∷ [];
       clocks = record { high_priority = now; rx_tx_specific = now; general = now };
-      attenuator = record { attenuation = a };
+      attenuation = a;
       health = h;
       consecutive_malformed = 0;
       last_reading = now;
@@ -60,7 +61,7 @@ closed-so n f en ef =
 
 -- ---- Open
 
-module _ (s : Settings) (now : ℕ) (a : SettingsAnswer) (x : Session) where
+module _ (s : Settings) (now : ℕ) (a : Result ℕ SettingsError) (x : Session) where
   abbrev result : Opened
   result = record { answer = a; session = x }
 
@@ -68,23 +69,23 @@ module _ (s : Settings) (now : ℕ) (a : SettingsAnswer) (x : Session) where
   unfolding accepts
   accepts-is b t e = ap is_given (sym t) ∙ e
 
-  pub opened-not : ((k : ℕ) → a ≡ Accepted k → ⊥) → settings_answer a ≡ settings_told s → x ≡ unopened → Opens result s now
+  pub opened-not : ((k : ℕ) → a ≡ Ok k → ⊥) → settings_answer a ≡ settings_told s → x ≡ unopened → Opens result s now
   unfolding opened
   opened-not n t e = record { answers = t; leaves = e ∙ sym (pick-f _ _ _ (accepts-is false t (go a n))) }
     where
-      go : (a : SettingsAnswer) → ((k : ℕ) → a ≡ Accepted k → ⊥) → is_given (settings_answer a) ≡ false
-      go (Accepted k) n = absurd (n k refl)
-      go DdcCount n = refl
-      go CenterCount n = refl
-      go Rate n = refl
-      go Center n = refl
-      go CenterTooHigh n = refl
-      go PortZero n = refl
-      go Port n = refl
+      go : (a : Result ℕ SettingsError) → ((k : ℕ) → a ≡ Ok k → ⊥) → is_given (settings_answer a) ≡ false
+      go (Ok k) n = absurd (n k refl)
+      go (Err DdcCount) n = refl
+      go (Err CenterCount) n = refl
+      go (Err Rate) n = refl
+      go (Err Center) n = refl
+      go (Err CenterTooHigh) n = refl
+      go (Err PortZero) n = refl
+      go (Err Port) n = refl
 
-  pub opened-so : (k : ℕ) → a ≡ Accepted k → settings_answer a ≡ settings_told s → x ≡ new_session k s now
-      → Opens (record { answer = Accepted k; session = x }) s now
+  pub opened-so : (k : ℕ) → a ≡ Ok k → settings_answer a ≡ settings_told s → x ≡ new_session k s now
+      → Opens (record { answer = Ok k; session = x }) s now
   unfolding opened
   opened-so k g t e =
       let h : k ≡ khz_of s.sample_rate_hz = khz-is s k (sym (ap settings_answer g) ∙ t) in
-      record { answers = sym (ap settings_answer g) ∙ t; leaves = e ∙ ap (λ (n : ℕ). new_session n s now) h ∙ sym (pick-t _ _ _ (accepts-is true t (ap (λ (y : SettingsAnswer). is_given (settings_answer y)) g))) }
+      record { answers = sym (ap settings_answer g) ∙ t; leaves = e ∙ ap (λ (n : ℕ). new_session n s now) h ∙ sym (pick-t _ _ _ (accepts-is true t (ap (λ (y : Result ℕ SettingsError). is_given (settings_answer y)) g))) }

@@ -8,14 +8,14 @@ use super::settings::validate_protocol2;
 use attenuator::{Controller, Timing};
 use health::InputHealthCounters;
 use model::answer::Opened;
-use model::receiver::{Anchor, Parked, Pending, Reading, Receiver, Slot, Window};
-use model::session::{Attenuation, Attenuator, Clocks, Common, Session, Tuning};
-use model::settings::{AttenuationChoice, Settings, SettingsAnswer};
+use model::receiver::{Pending, Reading, Receiver};
+use model::session::{Clocks, Common, Session, Tuning};
+use model::settings::{AttenuationChoice, Settings};
 use sequence::SeqTracker;
 use stall::StallEpisode;
 use stream::SAMPLES_PER_DATAGRAM;
 use tuning::alex::alex_words;
-use tuning::board::{BoardId, board_info};
+use tuning::board::board_info;
 use tuning::phase::phase_word;
 
 // What the packets carry: the rate is this many kHz, as the settings' check has it.
@@ -45,15 +45,15 @@ fn attenuates(s: Settings) -> bool
     }
 }
 
-fn attenuation_at(on: bool, now: u64) -> Attenuation
+fn attenuation_at(on: bool, now: u64) -> Option<Controller>
     ensures { result ≡ Open.attenuation_at on now }
 {
     if on {
         let timing = Timing::default();
         let controller = Controller::new(0, now, timing);
-        return Attenuation::On(controller);
+        return Some(controller);
     }
-    Attenuation::Off
+    None
 }
 
 fn new_common(s: Settings, khz: u16, now: u64) -> Common
@@ -61,7 +61,6 @@ fn new_common(s: Settings, khz: u16, now: u64) -> Common
 {
     let tuning = tuned(s, khz);
     let attenuation = attenuation_at(attenuates(s), now);
-    let attenuator = Attenuator { attenuation };
     let clocks = Clocks {
         high_priority: now,
         rx_tx_specific: now,
@@ -73,7 +72,7 @@ fn new_common(s: Settings, khz: u16, now: u64) -> Common
         tuning,
         seq: [0; 4],
         clocks,
-        attenuator,
+        attenuation,
         health,
         consecutive_malformed: 0,
         last_reading: now,
@@ -87,21 +86,18 @@ fn new_receiver(now: u64) -> Receiver
     let tracker = SeqTracker::new();
     let stall = StallEpisode::new();
     let reading = Reading {
-        wait_entered: Anchor::Unset,
-        entered: Anchor::Unset,
-    };
-    let parked = Parked {
-        window: Window::Shut,
+        wait_entered: None,
+        entered: None,
     };
     let pending = Pending {
-        missing: Slot::Empty,
-        discontinuity: Slot::Empty,
+        missing: None,
+        discontinuity: None,
     };
     Receiver {
         tracker,
         queue_pos: SAMPLES_PER_DATAGRAM as usize,
         reading,
-        parked,
+        parked: None,
         pending,
         last_valid_iq: now,
         last_accepted_iq: now,
@@ -121,7 +117,7 @@ fn new_session(s: Settings, khz: u16, now: u64) -> Session
 fn no_settings() -> Settings
     ensures { result ≡ Open.no_settings }
 {
-    let board = board_info(BoardId::Skipped);
+    let board = board_info(None);
     Settings {
         ddc_count: 0,
         center_count: 0,
@@ -149,14 +145,14 @@ fn unopened() -> Session
 }
 
 // Opens a session: `s` is what the caller asks for, `now` the opening reading, which every clock and the last accepted reading then
-// hold. Lend 476 f32 beside the session to every call that takes samples; what they hold at first makes no difference. Accepted: go
-// on with the session; the rate in kHz is what its packets say. Any other answer is a row of the settings (`refusal` gives the number):
+// hold. Lend 476 f32 beside the session to every call that takes samples; what they hold at first makes no difference. Ok: go
+// on with the session; the rate in kHz is what its packets say. An error is a row of the settings (`refusal` gives the number):
 // ask again with other settings. The session beside a refusal is closed, and each call of it is refused by 10.
 pub fn open(s: Settings, now: u64) -> Opened
     ensures { Opens result s now }
 {
     let answer = validate_protocol2(s);
-    let SettingsAnswer::Accepted(khz) = answer else {
+    let Ok(khz) = answer else {
         let session = unopened();
         return Opened { answer, session };
     };

@@ -5,8 +5,8 @@ ghost use Rattle.model.specs.Settings.{settings_answer, settings_told};
 ghost use Rattle.opening.specs.Refusal.{number_of};
 
 use double::whole::{is_finite, is_whole};
-use model::settings::{Settings, SettingsAnswer};
-use tuning::rate::{RateAnswer, rate_khz};
+use model::settings::{Settings, SettingsError};
+use tuning::rate::rate_khz;
 
 // Half the ADC clock: the phase word's range.
 const MAX_CENTRE_FREQ_HZ: f64 = 61_440_000.0;
@@ -35,46 +35,37 @@ fn below_nyquist(f: f64) -> bool
 }
 
 // The rate in kHz, or the first row that applies.
-pub fn validate_protocol2(s: Settings) -> SettingsAnswer
+pub fn validate_protocol2(s: Settings) -> Result<u16, SettingsError>
     ensures { settings_answer result ≡ settings_told s }
 {
     if s.ddc_count != 1 {
-        return SettingsAnswer::DdcCount;
+        return Err(SettingsError::DdcCount);
     }
     if s.center_count != 1 {
-        return SettingsAnswer::CenterCount;
+        return Err(SettingsError::CenterCount);
     }
-    let rate = rate_khz(s.sample_rate_hz);
-    let RateAnswer::Khz(khz) = rate else {
-        return SettingsAnswer::Rate;
-    };
+    let khz = rate_khz(s.sample_rate_hz).ok_or(SettingsError::Rate)?;
     if !whole_centre(s.center_freq_hz) {
-        return SettingsAnswer::Center;
+        return Err(SettingsError::Center);
     }
     if !below_nyquist(s.center_freq_hz) {
-        return SettingsAnswer::CenterTooHigh;
+        return Err(SettingsError::CenterTooHigh);
     }
     if s.port == 0 {
-        return SettingsAnswer::PortZero;
+        return Err(SettingsError::PortZero);
     }
     if s.port > MAX_PORT {
-        return SettingsAnswer::Port;
+        return Err(SettingsError::Port);
     }
-    SettingsAnswer::Accepted(khz)
+    Ok(khz)
 }
 
 // A refusal's number; 0 where the settings are accepted.
-pub fn refusal(a: SettingsAnswer) -> u64
+pub fn refusal(a: Result<u16, SettingsError>) -> u64
     ensures { result ≡ number_of (settings_answer a) }
 {
     match a {
-        SettingsAnswer::Accepted(_) => 0,
-        SettingsAnswer::DdcCount => 1,
-        SettingsAnswer::CenterCount => 2,
-        SettingsAnswer::Rate => 3,
-        SettingsAnswer::Center => 4,
-        SettingsAnswer::CenterTooHigh => 5,
-        SettingsAnswer::PortZero => 19,
-        SettingsAnswer::Port => 6,
+        Ok(_) => 0,
+        Err(e) => e.number(),
     }
 }

@@ -49,7 +49,7 @@ module _ (rate : Float) (event : SeqEvent) (r : Receiver) (h : InputHealthCounte
   unfolding missing_of
   gap-told k q e g = g ∙ ap told (sym e)
 
-  pub restart-told : (t : ℕ) (q : Report) → event ≡ Restart → t ≡ outage rate r.last_accepted_iq r.parked.window reading later r.tracker waiting
+  pub restart-told : (t : ℕ) (q : Report) → event ≡ Restart → t ≡ outage rate r.last_accepted_iq r.parked reading later r.tracker waiting
       → q ≡ report_of rate Restart (restart_missing t rate) r.pending h → q ≡ told event
   unfolding missing_of restart_of
   restart-told t q e o g = g ∙ ap (λ (n : ℕ). report_of rate Restart (restart_missing n rate) r.pending h) o ∙ ap told (sym e)

@@ -1,4 +1,6 @@
 -- The walk over the waiting numbers, one turn of the loop, and what it leaves of a restart's time. Assumes nothing.
+use Rattle.std.specs.Prelude.{Option, Some, None}
+use Rattle.model.specs.declared.receiver.Parked.{Parked}
 use Prim.Native.Nat.{ℕ, ◌+◌, ◌-◌, ◌≤◌, ◌<◌, min}
 use mathlib.Core.Path.{◌≡◌, sym, ap, ◌∙◌}
 use mathlib.Core.List.{List, ◌∷◌}
@@ -9,12 +11,10 @@ use native.Mathlib.Numerals.{add-one}
 use Rattle.double.specs.Whole.{most}
 use Rattle.stream.specs.Elapsed.{jump_limit, covered_time}
 use Rattle.sequence.specs.Tracker.{observed}
-use Rattle.sequence.specs.declared.Observed.{Observed}
+use Rattle.sequence.specs.Tracker.{Observed}
 use Rattle.sequence.specs.declared.SeqEvent.{SeqEvent}
 use Rattle.sequence.specs.declared.SeqTracker.{SeqTracker}
 use Rattle.model.specs.Rules.{elapsed, capped, datagrams, backlog, uncovered, outage}
-use Rattle.model.specs.declared.receiver.Window.{Window}
-use Rattle.model.specs.declared.receiver.Window.TheVariants.{Shut, Open}
 
 module _ (limit : ℕ) (t : SeqTracker) (w : List ℕ) where
   pub walk_more : (i : ℕ) (seen : Observed) (e : SeqEvent) (n : ℕ) → i < length w → seen ≡ observed t (get_or w i 0) → e ≡ capped limit seen.event
@@ -30,17 +30,17 @@ module _ (limit : ℕ) (t : SeqTracker) (w : List ℕ) where
   unfolding backlog
   walk-done i h = ap (backlog limit t) (drop_of_length-le w h)
 
-module _ (rate : Float) (accepted : ℕ) (window : Window) (now later : ℕ) (t : SeqTracker) (waiting : List ℕ) where
-  pub outage-outside : (since : ℕ) → window ≡ Shut → since ≡ now - accepted → since ≡ outage rate accepted window now later t waiting
+module _ (rate : Float) (accepted : ℕ) (window : Option Parked) (now later : ℕ) (t : SeqTracker) (waiting : List ℕ) where
+  pub outage-outside : (since : ℕ) → window ≡ None → since ≡ now - accepted → since ≡ outage rate accepted window now later t waiting
   unfolding outage elapsed
-  outage-outside since e h = h ∙ ap (λ (x : Window). outage rate accepted x now later t waiting) (sym e)
+  outage-outside since e h = h ∙ ap (λ (x : Option Parked). outage rate accepted x now later t waiting) (sym e)
 
-  pub outage-parked : (from accounted left bound total covered rest : ℕ) → window ≡ Open from accounted left → bound ≡ elapsed rate now window later
+  pub outage-parked : (p : Parked) (bound total covered rest : ℕ) → window ≡ Some p → bound ≡ elapsed rate now window later
       → total ≡ min (backlog (jump_limit bound rate) t waiting) most → covered ≡ covered_time total rate → rest ≡ bound - covered
       → rest ≡ outage rate accepted window now later t waiting
   unfolding outage uncovered
-  outage-parked from accounted left bound total covered rest e hb ht hc hr =
+  outage-parked p bound total covered rest e hb ht hc hr =
       hr
       ∙ ap (λ (k : ℕ). bound - k) (hc ∙ ap (λ (k : ℕ). covered_time k rate) ht)
-      ∙ ap (λ (b : ℕ). uncovered rate b t waiting) (hb ∙ ap (λ (x : Window). elapsed rate now x later) e)
-      ∙ ap (λ (x : Window). outage rate accepted x now later t waiting) (sym e)
+      ∙ ap (λ (b : ℕ). uncovered rate b t waiting) (hb ∙ ap (λ (x : Option Parked). elapsed rate now x later) e)
+      ∙ ap (λ (x : Option Parked). outage rate accepted x now later t waiting) (sym e)

@@ -6,26 +6,24 @@ ghost use Rattle.model.specs.Rules as Rules;
 
 use double::time::since;
 use double::whole::saturating_add;
-use model::receiver::Window;
+use model::receiver::Parked;
 use sequence::{SeqEvent, SeqTracker};
 use stream::{account_time, covered_time, jump_limit};
 
 // E: how long ago an arrival was last accepted; in a park window, if larger, the time since its anchor less that of its account.
-pub fn unaccounted(rate: f64, accepted: u64, window: Window, now: u64) -> u64
-    ensures { result ≡ Rules.elapsed rate accepted window now }
+pub fn unaccounted(rate: f64, accepted: u64, parked: Option<Parked>, now: u64) -> u64
+    ensures { result ≡ Rules.elapsed rate accepted parked now }
 {
     let since_last = since(now, accepted);
-    let Window::Open {
-        from,
-        accounted,
-        left: _,
-    } = window
-    else {
+    let Some(window) = parked else {
         return since_last;
     };
-    let parked = since(since(now, from), account_time(accounted, rate));
-    if since_last < parked {
-        return parked;
+    let in_window = since(
+        since(now, window.from),
+        account_time(window.accounted, rate),
+    );
+    if since_last < in_window {
+        return in_window;
     }
     since_last
 }
@@ -62,13 +60,9 @@ fn backlog_datagrams(bound: u64, rate: f64, tracker: SeqTracker, waiting: &[u32]
     let plausible = jump_limit(bound, rate);
     let mut copy = tracker;
     let mut total: u64 = 0;
-    let mut i = 0;
-    while i < waiting.len() {
-        let seen = copy.observe(waiting[i]);
-        let event = seen.event;
+    for seq in waiting {
+        let event = copy.observe(*seq);
         total = saturating_add(total, datagrams(capped(plausible, event)));
-        copy = seen.tracker;
-        i += 1;
     }
     total
 }
@@ -78,23 +72,18 @@ fn backlog_datagrams(bound: u64, rate: f64, tracker: SeqTracker, waiting: &[u32]
 pub fn restart_outage(
     rate: f64,
     accepted: u64,
-    window: Window,
+    parked: Option<Parked>,
     reading: u64,
     later: u64,
     tracker: SeqTracker,
     waiting: &[u32],
 ) -> u64
-    ensures { result ≡ Rules.outage rate accepted window reading later tracker waiting.now }
+    ensures { result ≡ Rules.outage rate accepted parked reading later tracker waiting.now }
 {
-    let Window::Open {
-        from: _,
-        accounted: _,
-        left: _,
-    } = window
-    else {
+    let Some(_) = parked else {
         return since(reading, accepted);
     };
-    let bound = unaccounted(rate, reading, window, later);
+    let bound = unaccounted(rate, reading, parked, later);
     let covered = covered_time(backlog_datagrams(bound, rate, tracker, waiting), rate);
     since(bound, covered)
 }

@@ -7,7 +7,7 @@ ghost use Rattle.model.specs.Rules as Rules;
 ghost use Rattle.outage.specs.Report.{report_of};
 
 use super::elapsed::restart_outage;
-use super::pending::{add_discontinuity, add_missing};
+use super::pending::add_pending;
 use health::InputHealthCounters;
 use model::receiver::{Pending, Receiver};
 use sequence::SeqEvent;
@@ -25,19 +25,19 @@ fn report_gap(rate: f64, k: u32, pending: Pending, health: InputHealthCounters) 
     ensures { result ≡ report_of rate (SeqEvent.Gap k) (238 * k) pending health }
 {
     let missing = SAMPLES_PER_DATAGRAM * (k as u64);
-    let dropped = health.record_dropped(k as u64);
-    let counted = dropped.record_gap();
+    let mut health = health;
+    health.record_dropped(k as u64);
+    health.record_gap();
+    let mut pending = pending;
     if below_half(missing, rate) {
-        return Report {
-            missing,
-            pending: add_missing(pending, missing),
-            health: counted,
-        };
+        add_pending(&mut pending.missing, missing);
+    } else {
+        add_pending(&mut pending.discontinuity, missing);
     }
     Report {
         missing,
-        pending: add_discontinuity(pending, missing),
-        health: counted,
+        pending,
+        health,
     }
 }
 
@@ -46,27 +46,28 @@ fn report_restart(rate: f64, outage: u64, pending: Pending, health: InputHealthC
     ensures { result ≡ report_of rate SeqEvent.Restart (restart_missing outage rate) pending health }
 {
     let missing = restart_missing(outage, rate);
+    let mut health = health;
+    health.record_gap();
+    let mut pending = pending;
+    add_pending(&mut pending.discontinuity, missing);
     Report {
         missing,
-        pending: add_discontinuity(pending, missing),
-        health: health.record_gap(),
+        pending,
+        health,
     }
 }
 
 // The time that a restart misses, of a receiver whose tracker has heard it.
 fn outage_after(rate: f64, r: Receiver, reading: u64, later: u64, waiting: &[u32]) -> u64
-    ensures { result ≡ Rules.outage rate r.last_accepted_iq r.parked.window reading later r.tracker waiting.now }
+    ensures { result ≡ Rules.outage rate r.last_accepted_iq r.parked reading later r.tracker waiting.now }
 {
-    let parked = r.parked;
-    let window = parked.window;
-    let tracker = r.tracker;
     restart_outage(
         rate,
         r.last_accepted_iq,
-        window,
+        r.parked,
         reading,
         later,
-        tracker,
+        r.tracker,
         waiting,
     )
 }

@@ -4,35 +4,30 @@ ghost use Rattle.model.specs.Rules as Rules;
 
 use double::time::since;
 use double::whole::saturating_add;
-use model::receiver::Window;
+use model::receiver::Parked;
 use stream::SAMPLES_PER_DATAGRAM;
 
 // A pause this long between reads, in nanoseconds, parks the socket.
 const PARKED_AFTER: u64 = 100_000_000;
 
 // Opened at the last Take, or refilled where it is open.
-fn refilled(window: Window, size: u64, taken: u64) -> Window
+fn refilled(window: Option<Parked>, size: u64, taken: u64) -> Option<Parked>
     ensures { result ≡ Rules.refilled size taken window }
 {
     match window {
-        Window::Shut => Window::Open {
+        None => Some(Parked {
             from: taken,
             accounted: 0,
             left: size,
-        },
-        Window::Open {
-            from,
-            accounted,
-            left: _,
-        } => Window::Open {
-            from,
-            accounted,
+        }),
+        Some(parked) => Some(Parked {
             left: size,
-        },
+            ..parked
+        }),
     }
 }
 
-pub fn begun(window: Window, size: u64, taken: u64, now: u64) -> Window
+pub fn begun(window: Option<Parked>, size: u64, taken: u64, now: u64) -> Option<Parked>
     ensures { result ≡ Rules.begun size taken window now }
 {
     if since(now, taken) >= PARKED_AFTER {
@@ -42,24 +37,17 @@ pub fn begun(window: Window, size: u64, taken: u64, now: u64) -> Window
 }
 
 // After an accepted arrival that was told so much missing.
-pub fn used(window: Window, missing: u64) -> Window
+pub fn used(window: Option<Parked>, missing: u64) -> Option<Parked>
     ensures { result ≡ Rules.used window missing }
 {
-    let Window::Open {
-        from,
-        accounted,
-        left,
-    } = window
-    else {
-        return Window::Shut;
-    };
-    if left <= 1 {
-        return Window::Shut;
+    let parked = window?;
+    if parked.left <= 1 {
+        return None;
     }
-    let heard = saturating_add(accounted, SAMPLES_PER_DATAGRAM);
-    Window::Open {
-        from,
+    let heard = saturating_add(parked.accounted, SAMPLES_PER_DATAGRAM);
+    Some(Parked {
+        from: parked.from,
         accounted: saturating_add(heard, missing),
-        left: left - 1,
-    }
+        left: parked.left - 1,
+    })
 }

@@ -1,7 +1,7 @@
 // The attenuator's controller, run on a list of calls, and the times that it is usually given.
 ghost use Rattle.std.specs.Prelude.{◌+◌, ◌≤◌, ◌<◌, length};
 
-use attenuator::{AttenuationCause, AttenuationStep, Controller, Stepped, Timing};
+use attenuator::{AttenuationCause, AttenuationStep, Controller, Timing};
 use casebook::answer::Answer;
 
 // A call's octets: its kind, and the reading big-endian.
@@ -28,7 +28,7 @@ pub fn put_reading(p: &mut [u8], at: usize, v: u64)
     octets::put_u32(p, at + 4, (v % 4294967296) as u32);
 }
 
-fn called(c: Controller, kind: u8, now: u64) -> Stepped {
+fn called(c: &mut Controller, kind: u8, now: u64) -> Option<AttenuationStep> {
     match kind {
         CLEAR => c.observe(false, now),
         OVERLOAD => c.observe(true, now),
@@ -50,38 +50,31 @@ fn of_cause(cause: AttenuationCause) -> u8 {
 }
 
 // Four octets: a step's cause, the level that it left and the one that it led to, each 0 where there is none, and the level.
-fn told(step: AttenuationStep, db: u8) -> u32 {
+fn told(step: Option<AttenuationStep>, db: u8) -> u32 {
     match step {
-        AttenuationStep::NoStep => wide(db),
-        AttenuationStep::Step {
-            from_db,
-            to_db,
-            cause,
-        } => wide(of_cause(cause)) * 16777216
-            + wide(from_db) * 65536
-            + wide(to_db) * 256
-            + wide(db),
+        None => wide(db),
+        Some(s) => {
+            wide(of_cause(s.cause)) * 16777216
+                + wide(s.from_db) * 65536
+                + wide(s.to_db) * 256
+                + wide(db)
+        }
     }
 }
 
 // The front of a call's octets becomes what it told. No answer where a kind is unknown or the last call is cut.
 fn run(opened: Controller, p: &mut [u8]) -> Answer {
     let mut c = opened;
-    let mut at = 0;
-    while at < p.len() {
-        if p.len() - at < CALL {
+    for call in p.chunks_mut(CALL) {
+        if call.len() < CALL {
             return Answer::Nothing;
         }
-        let kind = p[at];
+        let kind = call[0];
         if kind > TICK {
             return Answer::Nothing;
         }
-        let s = called(c, kind, reading(p, at + 1));
-        let step = s.step;
-        let after = s.controller;
-        octets::put_u32(p, at, told(step, after.db));
-        c = after;
-        at += CALL;
+        let step = called(&mut c, kind, reading(call, 1));
+        octets::put_u32(call, 0, told(step, c.db));
     }
     Answer::Octets
 }

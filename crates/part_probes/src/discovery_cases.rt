@@ -6,15 +6,13 @@ use probes::packet_cases::of_packet;
 // Five fields and the address.
 const TOLD: usize = 11;
 
-const NO_MAC: [u8; 6] = [0; 6];
-
 pub fn request(p: &mut [u8]) -> Answer {
     of_packet(discovery_request_p2(p))
 }
 
 // What the octets are after the request was to be written, whether it was or not.
 pub fn request_left(p: &mut [u8]) -> Answer {
-    discovery_request_p2(p);
+    let _ = discovery_request_p2(p);
     Answer::Octets
 }
 
@@ -43,40 +41,32 @@ fn put(told: [u8; TOLD], p: &mut [u8]) -> Answer {
     if p.len() < TOLD {
         return Answer::Nothing;
     }
-    for i in 0..TOLD {
-        p[i] = told[i];
-    }
+    p[..TOLD].copy_from_slice(&told);
     Answer::Octets
-}
-
-// No answer where an address stands beside no reply.
-fn refused(mac: [u8; 6]) -> Answer {
-    if check::same(&mac, &NO_MAC) {
-        return Answer::Refused(18);
-    }
-    Answer::Nothing
 }
 
 // Protocol 1 tells no receivers.
 pub fn reply(p: &mut [u8]) -> Answer {
-    let r = parse_reply(p);
-    let a = r.answer;
-    let mac = r.mac;
-    match a {
+    let Some(r) = parse_reply(p) else {
+        return Answer::Refused(18);
+    };
+    match r.answer {
         ReplyAnswer::Protocol1 {
             status,
             board,
             firmware,
-        } => put(octets_of(1, of_status(status), board, firmware, 0, mac), p),
+        } => put(
+            octets_of(1, of_status(status), board, firmware, 0, r.mac),
+            p,
+        ),
         ReplyAnswer::Protocol2 {
             status,
             board,
             firmware,
             receivers,
         } => put(
-            octets_of(2, of_status(status), board, firmware, receivers, mac),
+            octets_of(2, of_status(status), board, firmware, receivers, r.mac),
             p,
         ),
-        ReplyAnswer::NoReply => refused(mac),
     }
 }

@@ -24,7 +24,8 @@ fn told(count: u64, others_stayed: bool) -> Answer {
 }
 
 pub fn dropped(count: u64, n: u64) -> Answer {
-    let c = counts(count, OTHER_GAPS, OTHER_MALFORMED).record_dropped(n);
+    let mut c = counts(count, OTHER_GAPS, OTHER_MALFORMED);
+    c.record_dropped(n);
     told(
         c.dropped_packets,
         c.gaps_detected == OTHER_GAPS && c.malformed_packets == OTHER_MALFORMED,
@@ -32,7 +33,8 @@ pub fn dropped(count: u64, n: u64) -> Answer {
 }
 
 pub fn gap(count: u64) -> Answer {
-    let c = counts(OTHER_DROPPED, count, OTHER_MALFORMED).record_gap();
+    let mut c = counts(OTHER_DROPPED, count, OTHER_MALFORMED);
+    c.record_gap();
     told(
         c.gaps_detected,
         c.dropped_packets == OTHER_DROPPED && c.malformed_packets == OTHER_MALFORMED,
@@ -40,7 +42,8 @@ pub fn gap(count: u64) -> Answer {
 }
 
 pub fn malformed(count: u64) -> Answer {
-    let c = counts(OTHER_DROPPED, OTHER_GAPS, count).record_malformed();
+    let mut c = counts(OTHER_DROPPED, OTHER_GAPS, count);
+    c.record_malformed();
     told(
         c.malformed_packets,
         c.dropped_packets == OTHER_DROPPED && c.gaps_detected == OTHER_GAPS,

@@ -6,12 +6,12 @@ use super::report_cases;
 use super::report_cases::event_of;
 use casebook::answer::Answer;
 use model::command::destination;
-use model::receiver::Window;
+use model::receiver::Parked;
 use outage::elapsed::{capped, restart_outage, unaccounted};
 use outage::window::{begun, used};
 use probes::double_cases::double_of;
 use probes::wire_cases::of_event;
-use sequence::{Expected, SeqTracker};
+use sequence::SeqTracker;
 
 pub const TABLE: [u8; 102] = *b"unaccounted 3o\n\
     capped 3\n\
@@ -27,38 +27,34 @@ const WINDOW: usize = 32;
 // The most waiting numbers of a case.
 const WAITING: usize = 512;
 
-fn window(p: &[u8]) -> Window
+fn window(p: &[u8]) -> Option<Parked>
     requires { 32 ≤ length p.now }
 {
     if reading(p, 0) == 0 {
-        return Window::Shut;
+        return None;
     }
-    Window::Open {
+    Some(Parked {
         from: reading(p, 8),
         accounted: reading(p, 16),
         left: reading(p, 24),
-    }
+    })
 }
 
-fn put_open(p: &mut [u8], from: u64, accounted: u64, left: u64)
+fn put_open(p: &mut [u8], w: Parked)
     requires { 32 ≤ length p.old }
 {
     put_reading(p, 0, 1);
-    put_reading(p, 8, from);
-    put_reading(p, 16, accounted);
-    put_reading(p, 24, left);
+    put_reading(p, 8, w.from);
+    put_reading(p, 16, w.accounted);
+    put_reading(p, 24, w.left);
 }
 
-fn put_window(w: Window, p: &mut [u8]) -> Answer
+fn put_window(w: Option<Parked>, p: &mut [u8]) -> Answer
     requires { 32 ≤ length p.old }
 {
     match w {
-        Window::Shut => octets::clear(p, WINDOW),
-        Window::Open {
-            from,
-            accounted,
-            left,
-        } => put_open(p, from, accounted, left),
+        None => octets::clear(p, WINDOW),
+        Some(open) => put_open(p, open),
     }
     Answer::Octets
 }
@@ -69,16 +65,14 @@ fn waiting(p: &[u8], out: &mut [u32]) -> usize
     ensures { result ≤ length out.new }
 {
     let mut at = WINDOW;
-    let mut i = 0;
-    while i < out.len() {
+    for i in 0..out.len() {
         if p.len() - at < 4 {
             return i;
         }
         out[i] = octets::get_u32(p, at);
         at += 4;
-        i += 1;
     }
-    i
+    out.len()
 }
 
 // n is the rate, the last accepted reading, the arrival's reading, the later one, and the number expected next.
@@ -89,7 +83,7 @@ fn outage(n: [u64; 6], p: &[u8]) -> Answer
     let many = waiting(p, &mut numbers);
     let all = &numbers[..];
     let tracker = SeqTracker {
-        expected: Expected::Next((n[4] % 4294967296) as u32),
+        expected: Some((n[4] % 4294967296) as u32),
         stale_run: 0,
     };
     Answer::Number(restart_outage(

@@ -4,7 +4,7 @@ ghost use Rattle.std.specs.Prelude.{◌+◌, ◌≤◌, length};
 use super::attenuator_cases::{put_reading, reading};
 use casebook::answer::Answer;
 use health::InputHealthCounters;
-use model::receiver::{Anchor, Parked, Pending, Reading, Receiver, Slot, Window};
+use model::receiver::{Pending, Reading, Receiver};
 use outage::report::{Report, report_event};
 use probes::double_cases::double_of;
 use sequence::{SeqEvent, SeqTracker};
@@ -23,21 +23,21 @@ pub fn event_of(kind: u64, k: u64) -> SeqEvent {
     }
 }
 
-fn slot(p: &[u8], at: usize) -> Slot
+fn slot(p: &[u8], at: usize) -> Option<u64>
     requires { at + 16 ≤ length p.now }
 {
     if reading(p, at) == 0 {
-        return Slot::Empty;
+        return None;
     }
-    Slot::Holds(reading(p, at + 8))
+    Some(reading(p, at + 8))
 }
 
-fn put_slot(p: &mut [u8], at: usize, s: Slot)
+fn put_slot(p: &mut [u8], at: usize, s: Option<u64>)
     requires { at + 16 ≤ length p.old }
 {
     match s {
-        Slot::Empty => octets::clear(&mut p[at..], 16),
-        Slot::Holds(n) => {
+        None => octets::clear(&mut p[at..], 16),
+        Some(n) => {
             put_reading(p, at, 1);
             put_reading(p, at + 8, n);
         }
@@ -57,17 +57,14 @@ fn counts(p: &[u8]) -> InputHealthCounters
 // In no window, and last accepted at the reading 0.
 fn receiver(pending: Pending) -> Receiver {
     let none = Reading {
-        wait_entered: Anchor::Unset,
-        entered: Anchor::Unset,
-    };
-    let parked = Parked {
-        window: Window::Shut,
+        wait_entered: None,
+        entered: None,
     };
     Receiver {
         tracker: SeqTracker::new(),
         queue_pos: 238,
         reading: none,
-        parked,
+        parked: None,
         pending,
         last_valid_iq: 0,
         last_accepted_iq: 0,

@@ -3,7 +3,7 @@ ghost use Rattle.std.specs.Prelude.{◌≤◌};
 
 use casebook::answer::Answer;
 use probes::double_cases::of_bool;
-use stall::{StallEpisode, Taken};
+use stall::StallEpisode;
 
 const DELIVERY: u8 = 0;
 
@@ -24,18 +24,13 @@ pub fn due(n: [u64; 6]) -> Answer {
 }
 
 // The calls that hand out nothing tell no stall.
-fn called(e: StallEpisode, kind: u8) -> Taken {
+fn called(e: &mut StallEpisode, kind: u8) -> bool {
     match kind {
-        DELIVERY => Taken {
-            stalled: false,
-            episode: e.note_delivery(),
-        },
-        REPORT => Taken {
-            stalled: false,
-            episode: e.report(),
-        },
-        _ => e.take(),
+        DELIVERY => e.note_delivery(),
+        REPORT => e.report(),
+        _ => return e.take(),
     }
+    false
 }
 
 fn bit(b: bool) -> u8
@@ -44,25 +39,19 @@ fn bit(b: bool) -> u8
     if b { 1 } else { 0 }
 }
 
-fn told(t: Taken) -> u8 {
-    let e = t.episode;
-    bit(t.stalled) * 4 + bit(e.delivering) * 2 + bit(e.pending)
+fn told(stalled: bool, e: StallEpisode) -> u8 {
+    bit(stalled) * 4 + bit(e.delivering) * 2 + bit(e.pending)
 }
 
 // An octet of p is a call, and becomes what it told and left. No answer where its kind is unknown.
 pub fn calls(p: &mut [u8]) -> Answer {
     let mut e = StallEpisode::new();
-    let mut i = 0;
-    while i < p.len() {
-        let kind = p[i];
-        if kind > TAKE {
+    for x in p.iter_mut() {
+        if *x > TAKE {
             return Answer::Nothing;
         }
-        let t = called(e, kind);
-        p[i] = told(t);
-        let after = t.episode;
-        e = after;
-        i += 1;
+        let stalled = called(&mut e, *x);
+        *x = told(stalled, e);
     }
     Answer::Octets
 }

@@ -1,11 +1,11 @@
 // The functions of wire on octets that a case can name. A row is counted from 0, in the order of the table.
 use casebook::answer::Answer;
-use iq::{IqAnswer, iq_header, parse_iq_datagram};
-use tuning::board::{BoardId, BoardInfo, FilterScheme};
+use iq::{IqError, iq_header, parse_iq_datagram};
+use tuning::board::{BoardInfo, FilterScheme};
 use wire::packet::{
-    PacketAnswer, general_packet, high_priority_packet, rx_specific_packet, tx_specific_packet,
+    PacketError, general_packet, high_priority_packet, rx_specific_packet, tx_specific_packet,
 };
-use wire::status::{OverloadBits, adc_overload_bits};
+use wire::status::adc_overload_bits;
 
 // A packet is given its arguments in the Rust's order, the board by its ADCs and its filter enable.
 pub const TABLE: [u8; 182] = *b"general_packet 3o\n\
@@ -20,16 +20,16 @@ pub const TABLE: [u8; 182] = *b"general_packet 3o\n\
     iq_room 1o\n\
     iq_left 2o";
 
-pub fn of_packet(a: PacketAnswer) -> Answer {
+pub fn of_packet(a: Result<(), PacketError>) -> Answer {
     match a {
-        PacketAnswer::Written => Answer::Octets,
-        PacketAnswer::NoRoom => Answer::Refused(15),
+        Ok(()) => Answer::Octets,
+        Err(PacketError::NoRoom) => Answer::Refused(15),
     }
 }
 
 fn board(adcs: u8, enable: u8) -> BoardInfo {
     BoardInfo {
-        id: BoardId::Skipped,
+        id: None,
         adc_count: adcs,
         filter_enable: enable,
         scheme: FilterScheme::Bypass,
@@ -89,7 +89,7 @@ fn high_priority(n: [u64; 6], p: &mut [u8]) -> Answer {
 // What the octets are after a packet was to be written, whether it was or not. The writers stand in the table's order.
 fn left(which: u64, p: &mut [u8]) -> Answer {
     let b = board(1, 1);
-    match which {
+    let _ = match which {
         0 => general_packet(0, b, p),
         1 => rx_specific_packet(0, b, 48, p),
         2 => tx_specific_packet(0, p),
@@ -100,29 +100,29 @@ fn left(which: u64, p: &mut [u8]) -> Answer {
 
 fn overload(p: &[u8]) -> Answer {
     match adc_overload_bits(p) {
-        OverloadBits::Bits(b) => Answer::Number(b as u64),
-        OverloadBits::NoBits => Answer::Absent,
+        Some(b) => Answer::Number(b as u64),
+        None => Answer::Absent,
     }
 }
 
-fn of_iq(a: IqAnswer) -> Answer {
+fn of_iq(a: Result<u32, IqError>) -> Answer {
     match a {
-        IqAnswer::Accepted(seq) => Answer::Number(seq as u64),
-        IqAnswer::Length(_) => Answer::Refused(7),
-        IqAnswer::BitsPerSample(_) => Answer::Refused(8),
-        IqAnswer::SamplesPerFrame(_) => Answer::Refused(9),
-        IqAnswer::NoRoom => Answer::Refused(16),
+        Ok(seq) => Answer::Number(seq as u64),
+        Err(IqError::Length(_)) => Answer::Refused(7),
+        Err(IqError::BitsPerSample(_)) => Answer::Refused(8),
+        Err(IqError::SamplesPerFrame(_)) => Answer::Refused(9),
+        Err(IqError::NoRoom) => Answer::Refused(16),
     }
 }
 
 // What the answer gives: the count, or with a refusal the length or the field.
-fn given(a: IqAnswer) -> Answer {
+fn given(a: Result<u32, IqError>) -> Answer {
     match a {
-        IqAnswer::Accepted(seq) => Answer::Number(seq as u64),
-        IqAnswer::Length(n) => Answer::Number(n as u64),
-        IqAnswer::BitsPerSample(v) => Answer::Number(v as u64),
-        IqAnswer::SamplesPerFrame(v) => Answer::Number(v as u64),
-        IqAnswer::NoRoom => Answer::Nothing,
+        Ok(seq) => Answer::Number(seq as u64),
+        Err(IqError::Length(n)) => Answer::Number(n as u64),
+        Err(IqError::BitsPerSample(v)) => Answer::Number(v as u64),
+        Err(IqError::SamplesPerFrame(v)) => Answer::Number(v as u64),
+        Err(IqError::NoRoom) => Answer::Nothing,
     }
 }
 
@@ -141,7 +141,7 @@ fn sample(p: &[u8], i: u64) -> Answer {
     }
     let mut out = [7.0f32; 480];
     let a = parse_iq_datagram(p, &mut out);
-    let IqAnswer::Accepted(_) = a else {
+    let Ok(_) = a else {
         return of_iq(a);
     };
     Answer::Double(bits_of(out[i as usize]) as u64)
@@ -167,7 +167,7 @@ fn kept(p: &[u8], n: u64, i: u64) -> Answer {
     }
     let n = n as usize;
     let mut out = [7.0f32; 480];
-    parse_iq_datagram(p, &mut out[0..n]);
+    let _ = parse_iq_datagram(p, &mut out[0..n]);
     Answer::Double(bits_of(out[i as usize]) as u64)
 }
 

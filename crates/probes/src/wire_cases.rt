@@ -1,11 +1,11 @@
 // The functions of wire on numbers that a case can name. A row is counted from 0, in the order of the table.
 use super::double_cases::{double_of, of_bool};
 use casebook::answer::Answer;
-use sequence::{Expected, Observed, SeqEvent, SeqTracker};
+use sequence::{SeqEvent, SeqTracker};
 use tuning::alex::alex_words;
-use tuning::board::{BoardId, FilterScheme, board_info};
+use tuning::board::{FilterScheme, board_info};
 use tuning::phase::phase_word;
-use tuning::rate::{RateAnswer, is_rate_khz, rate_khz};
+use tuning::rate::{is_rate_khz, rate_khz};
 use wire::status::adc0_overload;
 
 // The four of observe are given whether a number is expected, that number, the stale run and the arrival's number.
@@ -25,8 +25,8 @@ pub const TABLE: [u8; 175] = *b"phase_word 1\n\
 
 fn rate(x: f64) -> Answer {
     match rate_khz(x) {
-        RateAnswer::Khz(khz) => Answer::Number(khz as u64),
-        RateAnswer::NotEncodable => Answer::Refused(3),
+        Some(khz) => Answer::Number(khz as u64),
+        None => Answer::Refused(3),
     }
 }
 
@@ -69,11 +69,11 @@ fn alex(row: usize, scheme: u64, f: f64) -> Answer {
 }
 
 // 256 stands for a discovery that was skipped.
-fn board_of(n: u64) -> BoardId {
+fn board_of(n: u64) -> Option<u8> {
     if n < 256 {
-        return BoardId::Number(n as u8);
+        return Some(n as u8);
     }
-    BoardId::Skipped
+    None
 }
 
 fn board(row: usize, n: u64) -> Answer {
@@ -119,30 +119,24 @@ fn of_tracker(row: usize, t: SeqTracker) -> Answer {
     if row == 11 {
         return Answer::Number(t.stale_run as u64);
     }
-    let e = t.expected;
-    match e {
-        Expected::Next(n) => Answer::Number(n as u64),
-        Expected::Nothing => Answer::Nothing,
+    match t.expected {
+        Some(n) => Answer::Number(n as u64),
+        None => Answer::Nothing,
     }
 }
 
-fn of_observed(row: usize, o: Observed) -> Answer {
-    let event = o.event;
+fn of_observed(row: usize, event: SeqEvent, t: SeqTracker) -> Answer {
     if row == 8 {
         return of_event(event);
     }
     if row == 9 {
         return of_gap(event);
     }
-    let t = o.tracker;
     of_tracker(row, t)
 }
 
-fn expected_of(has: u64, n: u32) -> Expected {
-    if has == 0 {
-        return Expected::Nothing;
-    }
-    Expected::Next(n)
+fn expected_of(has: u64, n: u32) -> Option<u32> {
+    if has == 0 { None } else { Some(n) }
 }
 
 fn observe(row: usize, has: u64, next: u64, run: u64, seq: u64) -> Answer {
@@ -152,11 +146,12 @@ fn observe(row: usize, has: u64, next: u64, run: u64, seq: u64) -> Answer {
                 if seq < 4294967296 {
                     let expected = expected_of(has, next as u32);
                     let stale_run = run as u32;
-                    let t = SeqTracker {
+                    let mut t = SeqTracker {
                         expected,
                         stale_run,
                     };
-                    return of_observed(row, t.observe(seq as u32));
+                    let event = t.observe(seq as u32);
+                    return of_observed(row, event, t);
                 }
             }
         }

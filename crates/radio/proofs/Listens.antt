@@ -1,8 +1,8 @@
 -- The packets of a call, read one after another: which stream an offset is, and one packet more. Assumes nothing.
+use Rattle.std.specs.Prelude.{Option, Some, None}
 use Prim.Native.Nat.{ℕ, zero, suc, ◌+◌, ◌-◌, ◌≤◌, ◌<◌, min}
 use mathlib.Core.Path.{◌≡◌, refl, sym, ap, ◌∙◌}
 use mathlib.Core.List.{List, ◌∷◌}
-use mathlib.Core.Option.{Option, some, none}
 use lib.ListN.{length, get_or, take, drop, length-drop, drop_of_length-le}
 use lib.Seq.{drop-cons, drop-drop, take_all}
 use native.Mathlib.Nat.{add_assoc, zero-add}
@@ -18,7 +18,7 @@ use Rattle.radio.specs.Listen.{stream_at, where_known, cut, received, after, is_
 use Rattle.radio.specs.declared.listen.Received.{Received}
 use Rattle.radio.specs.declared.state.Radio.{Radio}
 
-pub no_stream : (n : ℕ) → (n ≡ 0 → ⊥) → (n ≡ 1 → ⊥) → (n ≡ 2 → ⊥) → (n ≡ 3 → ⊥) → none ≡ stream_at n
+pub no_stream : (n : ℕ) → (n ≡ 0 → ⊥) → (n ≡ 1 → ⊥) → (n ≡ 2 → ⊥) → (n ≡ 3 → ⊥) → None ≡ stream_at n
 no_stream zero a b c d = absurd (a refl)
 no_stream (suc zero) a b c d = absurd (b refl)
 no_stream (suc (suc zero)) a b c d = absurd (c refl)
@@ -56,7 +56,7 @@ module _ (offs p : List ℕ) (i at : ℕ) (r : Radio) (n : ℕ) where
     here = drop-cons offs i 0 h ∙ ap (λ (m : ℕ). get_or offs i 0 ∷ drop m offs) (sym (add-one i))
 
     -- one that is no stream's
-    pub onward-nowhere : stream_at (get_or offs i 0) ≡ none → record { radio = r; accepted = n } ≡ rest
+    pub onward-nowhere : stream_at (get_or offs i 0) ≡ None → record { radio = r; accepted = n } ≡ rest
     unfolding cut received
     onward-nowhere e =
         sym
@@ -68,7 +68,7 @@ module _ (offs p : List ℕ) (i at : ℕ) (r : Radio) (n : ℕ) where
         none_more n = omega arith
 
     -- a packet more, which ends at end
-    pub onward-more : (k : Stream) (x : Outcome) (end : ℕ) → stream_at (get_or offs i 0) ≡ some k → at ≤ length p → end ≡ min (at + size_of k) (length p)
+    pub onward-more : (k : Stream) (x : Outcome) (end : ℕ) → stream_at (get_or offs i 0) ≡ Some k → at ≤ length p → end ≡ min (at + size_of k) (length p)
         → x ≡ command_read r k (take (end - at) (drop at p)) → rest ≡ onward x.radio (n + is_accepted x.told) (received x.radio (cut (drop (i + 1) offs) (drop end p)))
     unfolding cut received
     onward-more k x end e l m q =

@@ -1,15 +1,15 @@
 -- The radio's answers to command packets, in 02's numbers, and what a command packet comes to. Definitions only.
-use Rattle.std.specs.Prelude.{[]}
+use Rattle.std.specs.Prelude.{⊤, [], Result, Ok, Err}
+use Rattle.radio.specs.declared.answer.CommandError.{CommandError}
+use Rattle.radio.specs.declared.answer.CommandError.TheVariants.{Length, Value}
 use Rattle.base.specs.Told.{Told, gives, refused}
-use Rattle.radio.specs.declared.answer.CommandAnswer.{CommandAnswer}
-use Rattle.radio.specs.declared.answer.CommandAnswer.TheVariants.{Accepted, Length, Value}
 use Rattle.radio.specs.declared.answer.Heard.{Heard}
 use Rattle.radio.specs.declared.state.Radio.{Radio}
 
-abbrev pub command_answer : CommandAnswer → Told
-command_answer Accepted = gives []
-command_answer Length = refused 20 []
-command_answer Value = refused 21 []
+abbrev pub command_answer : Result ⊤ CommandError → Told
+command_answer (Ok u) = gives []
+command_answer (Err Length) = refused 20 []
+command_answer (Err Value) = refused 21 []
 
 -- the answer to a command packet, and what the radio keeps then
 pub record Outcome : Type 0 where

@@ -1,28 +1,21 @@
 -- The packets that a call listed, read one after another. Definitions only.
-use Rattle.std.specs.Prelude.{ℕ, zero, suc, ◌+◌, List, [], ◌∷◌, take, drop}
-use Rattle.std.proofs.Math.Option.{Option, some, none}
+use Rattle.std.specs.Prelude.{ℕ, zero, suc, ◌+◌, List, [], ◌∷◌, take, drop, Option, Some, None}
 use Rattle.base.specs.Told.{Told, gives, refused}
 use Rattle.wire.specs.Command.{size_of}
 use Rattle.wire.specs.declared.command.Stream.{Stream}
 use Rattle.wire.specs.declared.command.Stream.TheVariants.{General, RxSpecific, TxSpecific, HighPriority}
 use Rattle.radio.specs.Answer.{Outcome}
 use Rattle.radio.specs.Command.{command_read}
-use Rattle.radio.specs.declared.listen.Destination.{Destination}
-use Rattle.radio.specs.declared.listen.Destination.TheVariants.{Of, Nowhere}
 use Rattle.radio.specs.declared.listen.Received.{Received}
 use Rattle.radio.specs.declared.state.Radio.{Radio}
 
 -- the stream whose packets go to the port plus this offset
 abbrev pub stream_at : ℕ → Option Stream
-stream_at zero = some General
-stream_at (suc zero) = some RxSpecific
-stream_at (suc (suc zero)) = some TxSpecific
-stream_at (suc (suc (suc zero))) = some HighPriority
-stream_at (suc (suc (suc (suc n)))) = none
-
-abbrev pub known : Destination → Option Stream
-known (Of k) = some k
-known Nowhere = none
+stream_at zero = Some General
+stream_at (suc zero) = Some RxSpecific
+stream_at (suc (suc zero)) = Some TxSpecific
+stream_at (suc (suc (suc zero))) = Some HighPriority
+stream_at (suc (suc (suc (suc n)))) = None
 
 -- ---- the packets of these streams, given as offsets: each stands behind the last, and an offset that is no stream's ends them
 
@@ -31,8 +24,8 @@ pub record Command : Type 0 where
   pub octets : List ℕ
 
 abbrev pub where_known : Option Stream → (Stream → List Command) → List Command
-where_known none f = []
-where_known (some k) f = f k
+where_known None f = []
+where_known (Some k) f = f k
 
 unfoldable pub cut : List ℕ → List ℕ → List Command
 cut [] b = []

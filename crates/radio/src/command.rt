@@ -5,7 +5,7 @@ ghost use Rattle.wire.specs.Command.{size_of};
 ghost use Rattle.radio.specs.Answer.{outcome_of};
 ghost use Rattle.radio.specs.Command.{plain, valued, general_in, rx_specific_in, tx_specific_in, high_priority_in, kept, command_read};
 
-use super::answer::{CommandAnswer, Heard};
+use super::answer::{CommandError, Heard};
 use super::state::{General, HighPriority, Radio, RxSpecific, TxSpecific};
 use octets::{get_u16, get_u32, is_zero};
 use stream::BITS_PER_SAMPLE;
@@ -184,24 +184,24 @@ pub fn read_command(radio: Radio, stream: Stream, packet: &[u8]) -> Heard
 {
     if packet.len() != stream.packet_len() {
         return Heard {
-            answer: CommandAnswer::Length,
+            answer: Err(CommandError::Length),
             radio,
         };
     }
     if !is_plain(stream, packet) {
         return Heard {
-            answer: CommandAnswer::Value,
+            answer: Err(CommandError::Value),
             radio,
         };
     }
     if !is_valued(stream, packet) {
         return Heard {
-            answer: CommandAnswer::Value,
+            answer: Err(CommandError::Value),
             radio,
         };
     }
     Heard {
-        answer: CommandAnswer::Accepted,
+        answer: Ok(()),
         radio: set_by(radio, stream, packet),
     }
 }

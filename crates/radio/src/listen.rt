@@ -1,9 +1,9 @@
 // The packets that a call of a session listed, which stand one behind the other in its buffer: each is read as its stream's.
 ghost use Rattle.std.specs.Prelude.{◌≡◌, ◌+◌, ◌≤◌, min};
 ghost use Rattle.radio.specs.Answer.{command_answer};
-ghost use Rattle.radio.specs.Listen.{stream_at, known, cut, is_accepted, received_of, received};
+ghost use Rattle.radio.specs.Listen.{stream_at, cut, is_accepted, received_of, received};
 
-use super::answer::CommandAnswer;
+use super::answer::CommandError;
 use super::command::read_command;
 use super::state::Radio;
 use wire::command::Stream;
@@ -15,33 +15,25 @@ pub struct Received {
     pub accepted: usize,
 }
 
-// The stream that goes to the port plus this offset, or that there is none.
-#[derive(Clone, Copy)]
-pub enum Destination {
-    Of(Stream),
-    Nowhere,
-}
-
-pub fn stream_at(offset: u8) -> Destination
-    ensures { known result ≡ stream_at offset }
+pub fn stream_at(offset: u8) -> Option<Stream>
+    ensures { result ≡ stream_at offset }
 {
     match offset {
-        0 => Destination::Of(Stream::General),
-        1 => Destination::Of(Stream::RxSpecific),
-        2 => Destination::Of(Stream::TxSpecific),
-        3 => Destination::Of(Stream::HighPriority),
-        _ => Destination::Nowhere,
+        0 => Some(Stream::General),
+        1 => Some(Stream::RxSpecific),
+        2 => Some(Stream::TxSpecific),
+        3 => Some(Stream::HighPriority),
+        _ => None,
     }
 }
 
 // 1 of a packet that was accepted, 0 of any other.
-fn count(answer: CommandAnswer) -> usize
+fn count(answer: Result<(), CommandError>) -> usize
     ensures { result ≡ is_accepted (command_answer answer) }
 {
     match answer {
-        CommandAnswer::Accepted => 1,
-        CommandAnswer::Length => 0,
-        CommandAnswer::Value => 0,
+        Ok(()) => 1,
+        Err(_) => 0,
     }
 }
 
@@ -61,13 +53,11 @@ fn end_of(at: usize, size: usize, all: usize) -> usize
 pub fn read_commands(radio: Radio, offsets: &[u8], packets: &[u8]) -> Received
     ensures { result ≡ received_of radio (received radio (cut offsets.now packets.now)) }
 {
-    let n = offsets.len();
     let mut next = radio;
     let mut accepted = 0;
     let mut at = 0;
-    let mut i = 0;
-    while i < n {
-        let Destination::Of(stream) = stream_at(offsets[i]) else {
+    for offset in offsets {
+        let Some(stream) = stream_at(*offset) else {
             return Received {
                 radio: next,
                 accepted,
@@ -75,12 +65,9 @@ pub fn read_commands(radio: Radio, offsets: &[u8], packets: &[u8]) -> Received
         };
         let end = end_of(at, stream.packet_len(), packets.len());
         let heard = read_command(next, stream, &packets[at..end]);
-        let answer = heard.answer;
-        accepted += count(answer);
-        let after = heard.radio;
-        next = after;
+        accepted += count(heard.answer);
+        next = heard.radio;
         at = end;
-        i += 1;
     }
     Received {
         radio: next,

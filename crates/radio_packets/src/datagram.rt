@@ -5,7 +5,7 @@ ghost use Rattle.octets.specs.Packet.{packet};
 ghost use Rattle.radio_packets.specs.Answer.{Wrote};
 ghost use Rattle.radio_packets.specs.Iq.{is24, bits_of, all24, is_pairs, octets_of, iq_fields, iq_datagram};
 
-use super::answer::WriteAnswer;
+use super::answer::WriteError;
 use iq::{IQ_BITS, IQ_DATAGRAM_LEN, IQ_PAYLOAD, IQ_SAMPLES, SAMPLES_PER_FRAME, SEQ_OFFSET};
 use stream::{BITS_PER_SAMPLE, F32_PER_DATAGRAM};
 
@@ -37,13 +37,10 @@ fn bits_of(x: i32) -> u32
 fn all_24(samples: &[i32]) -> bool
     ensures { result ≡ all24 samples.now }
 {
-    let n = samples.len();
-    let mut i = 0;
-    while i < n {
-        if !is_24(samples[i]) {
+    for x in samples {
+        if !is_24(*x) {
             return false;
         }
-        i += 1;
     }
     true
 }
@@ -71,24 +68,22 @@ fn put_samples(out: &mut [u8], samples: &[i32])
     requires { (1444 ≤ length out.old) × (length samples.now ≡ 476) × (all24 samples.now ≡ true) }
     ensures { out.new ≡ written out.old 16 (octets_of samples.now) }
 {
-    let mut i = 0;
-    while i < F32_PER_DATAGRAM {
+    for i in 0..F32_PER_DATAGRAM {
         octets::put_u24(out, IQ_PAYLOAD + 3 * i, bits_of(samples[i]));
-        i += 1;
     }
 }
 
 // Writes the datagram to the front of out. The samples are I, then Q of each pair: 476 numbers from -2^23 to 2^23 - 1.
-pub fn iq_datagram(seq: u32, samples: &[i32], out: &mut [u8]) -> WriteAnswer
+pub fn iq_datagram(seq: u32, samples: &[i32], out: &mut [u8]) -> Result<(), WriteError>
     ensures { Wrote (not (is_pairs samples.now)) 1444 (iq_datagram seq samples.now) out.old result out.new }
 {
     if !is_pairs(samples) {
-        return WriteAnswer::Value;
+        return Err(WriteError::Value);
     }
     if out.len() < IQ_DATAGRAM_LEN {
-        return WriteAnswer::NoRoom;
+        return Err(WriteError::NoRoom);
     }
     put_header(out, seq);
     put_samples(out, samples);
-    WriteAnswer::Written
+    Ok(())
 }

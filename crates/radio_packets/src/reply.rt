@@ -3,9 +3,9 @@ ghost use Rattle.std.specs.Prelude.{◌≡◌, false, not, ◌≤◌, length};
 ghost use Rattle.octets.specs.Written.{written};
 ghost use Rattle.discovery.specs.Reply.{status_number};
 ghost use Rattle.radio_packets.specs.Answer.{Wrote};
-ghost use Rattle.radio_packets.specs.Reply.{is_reply, reply_octets, reply_packet};
+ghost use Rattle.radio_packets.specs.Reply.{is_written, reply_octets, packet_of};
 
-use super::answer::WriteAnswer;
+use super::answer::WriteError;
 use discovery::{
     DiscoveryReply, DiscoveryStatus, P2_BOARD, P2_DDC_COUNT, P2_FIRMWARE, P2_MAC, P2_STATUS,
     ReplyAnswer, STATUS_BUSY, STATUS_IDLE,
@@ -27,11 +27,7 @@ fn put_mac(out: &mut [u8], mac: &[u8])
     requires { (60 ≤ length out.old) × (length mac.now ≡ 6) }
     ensures { out.new ≡ written out.old 5 mac.now }
 {
-    let mut i = 0;
-    while i < 6 {
-        out[P2_MAC + i] = mac[i];
-        i += 1;
-    }
+    out[P2_MAC..P2_MAC + 6].copy_from_slice(mac);
 }
 
 // A reply's fields and the address.
@@ -42,12 +38,12 @@ fn put_reply(
     receivers: u8,
     mac: &[u8],
     out: &mut [u8],
-) -> WriteAnswer
+) -> Result<(), WriteError>
     requires { length mac.now ≡ 6 }
     ensures { Wrote false 60 (reply_octets status board firmware receivers mac.now) out.old result out.new }
 {
     if out.len() < PROTOCOL2_REPLY_LEN {
-        return WriteAnswer::NoRoom;
+        return Err(WriteError::NoRoom);
     }
     octets::clear(out, PROTOCOL2_REPLY_LEN);
     out[P2_STATUS] = status_octet(status);
@@ -55,27 +51,23 @@ fn put_reply(
     out[P2_FIRMWARE] = firmware;
     out[P2_DDC_COUNT] = receivers;
     put_mac(out, mac);
-    WriteAnswer::Written
+    Ok(())
 }
 
-// Writes the reply to the front of out.
-pub fn discovery_reply(reply: DiscoveryReply, out: &mut [u8]) -> WriteAnswer
-    ensures { Wrote (not (is_reply reply.answer)) 60 (reply_packet reply.answer reply.mac) out.old result out.new }
+// Writes the reply to the front of out. Only one of Protocol 2 is written: another, or none, is refused by its value.
+pub fn discovery_reply(reply: Option<DiscoveryReply>, out: &mut [u8]) -> Result<(), WriteError>
+    ensures { Wrote (not (is_written reply)) 60 (packet_of reply) out.old result out.new }
 {
-    let answer = reply.answer;
-    let mac = reply.mac;
-    match answer {
-        ReplyAnswer::Protocol1 {
-            status: _,
-            board: _,
-            firmware: _,
-        } => WriteAnswer::Value,
+    let Some(r) = reply else {
+        return Err(WriteError::Value);
+    };
+    match r.answer {
+        ReplyAnswer::Protocol1 { .. } => Err(WriteError::Value),
         ReplyAnswer::Protocol2 {
             status,
             board,
             firmware,
             receivers,
-        } => put_reply(status, board, firmware, receivers, &mac, out),
-        ReplyAnswer::NoReply => WriteAnswer::Value,
+        } => put_reply(status, board, firmware, receivers, &r.mac, out),
     }
 }

@@ -3,9 +3,9 @@ ghost use Rattle.std.specs.Prelude.{◌≤◌, length};
 
 use super::state_cases::{RADIO, put_radio, radio};
 use casebook::answer::Answer;
-use radio::answer::CommandAnswer;
+use radio::answer::CommandError;
 use radio::command::read_command;
-use radio::listen::{Destination, Received, read_commands, stream_at};
+use radio::listen::{Received, read_commands, stream_at};
 use wire::command::Stream;
 
 // Room for the packets of a case: one of each stream is 3008 octets.
@@ -18,26 +18,24 @@ const PLACED: usize = 3;
 fn put_placed(p: &[u8], from: usize, packets: &mut [u8]) -> bool
     requires { from ≤ length p.now }
 {
-    let mut at = from;
-    while at < p.len() {
-        if p.len() - at < PLACED {
+    for placed in p[from..].chunks(PLACED) {
+        if placed.len() < PLACED {
             return false;
         }
-        let place = octets::get_u16(p, at) as usize;
+        let place = octets::get_u16(placed, 0) as usize;
         if place >= packets.len() {
             return false;
         }
-        packets[place] = p[at + 2];
-        at += PLACED;
+        packets[place] = placed[2];
     }
     true
 }
 
-fn of_command(a: CommandAnswer) -> Answer {
+fn of_command(a: Result<(), CommandError>) -> Answer {
     match a {
-        CommandAnswer::Accepted => Answer::Octets,
-        CommandAnswer::Length => Answer::Refused(20),
-        CommandAnswer::Value => Answer::Refused(21),
+        Ok(()) => Answer::Octets,
+        Err(CommandError::Length) => Answer::Refused(20),
+        Err(CommandError::Value) => Answer::Refused(21),
     }
 }
 
@@ -65,7 +63,7 @@ pub(crate) fn command(n: [u64; 6], p: &mut [u8]) -> Answer {
     if p.len() < RADIO {
         return Answer::Nothing;
     }
-    let Destination::Of(stream) = stream_at(n[0] as u8) else {
+    let Some(stream) = stream_at(n[0] as u8) else {
         return Answer::Absent;
     };
     let end = n[1] as usize;

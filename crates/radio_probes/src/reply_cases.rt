@@ -4,15 +4,15 @@ ghost use Rattle.std.specs.Prelude.{◌<◌};
 use casebook::answer::Answer;
 use discovery::{DiscoveryReply, DiscoveryStatus, ReplyAnswer};
 use probes::packet_cases::of_packet;
-use radio_packets::answer::WriteAnswer;
+use radio_packets::answer::WriteError;
 use radio_packets::reply::discovery_reply;
 use radio_packets::status::status_packet;
 
-pub(crate) fn of_write(a: WriteAnswer) -> Answer {
+pub(crate) fn of_write(a: Result<(), WriteError>) -> Answer {
     match a {
-        WriteAnswer::Written => Answer::Octets,
-        WriteAnswer::Value => Answer::Refused(21),
-        WriteAnswer::NoRoom => Answer::Refused(15),
+        Ok(()) => Answer::Octets,
+        Err(WriteError::Value) => Answer::Refused(21),
+        Err(WriteError::NoRoom) => Answer::Refused(15),
     }
 }
 
@@ -33,21 +33,27 @@ fn status_of(octet: u8) -> DiscoveryStatus {
 }
 
 // By its protocol, 1 or 2, of which only 2 tells receivers; 0 is no reply.
-fn reply_of(protocol: u64, status: u8, board: u8, firmware: u8, receivers: u8) -> ReplyAnswer {
+fn reply_of(
+    protocol: u64,
+    status: u8,
+    board: u8,
+    firmware: u8,
+    receivers: u8,
+) -> Option<ReplyAnswer> {
     let status = status_of(status);
     match protocol {
-        1 => ReplyAnswer::Protocol1 {
+        1 => Some(ReplyAnswer::Protocol1 {
             status,
             board,
             firmware,
-        },
-        2 => ReplyAnswer::Protocol2 {
+        }),
+        2 => Some(ReplyAnswer::Protocol2 {
             status,
             board,
             firmware,
             receivers,
-        },
-        _ => ReplyAnswer::NoReply,
+        }),
+        _ => None,
     }
 }
 
@@ -87,5 +93,6 @@ pub(crate) fn reply(n: [u64; 6], p: &mut [u8]) -> Answer {
         octet(n[4], 1),
     );
     let mac = mac_of(n[5]);
-    of_write(discovery_reply(DiscoveryReply { answer, mac }, p))
+    let reply = answer.map(|answer| DiscoveryReply { answer, mac });
+    of_write(discovery_reply(reply, p))
 }

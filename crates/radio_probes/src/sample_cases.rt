@@ -34,11 +34,9 @@ fn fill(out: &mut [i32], first: u32, step: u32)
     requires { (first < 16777216) × (step < 16777216) }
 {
     let mut v = first;
-    let mut i = 0;
-    while i < out.len() {
-        out[i] = of_24(v);
+    for x in out.iter_mut() {
+        *x = of_24(v);
         v = (v + step) % RANGE;
-        i += 1;
     }
 }
 

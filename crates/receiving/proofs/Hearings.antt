@@ -1,5 +1,7 @@
 -- A valid I/Q datagram, from the parts that the code makes of it: the number judged, the samples read, what is reported. Assumes
 -- nothing.
+use Rattle.std.specs.Prelude.{Result}
+use Rattle.iq.specs.declared.IqError.{IqError}
 use Prim.Native.Nat.{ℕ}
 use mathlib.Core.Path.{◌≡◌, refl, sym, ap, ◌∙◌}
 use mathlib.Core.Bool.{false}
@@ -13,10 +15,9 @@ use Rattle.octets.proofs.Tables.{length-tab}
 use Rattle.octets.proofs.Writes.{written-front}
 use Rattle.stream.specs.Elapsed.{jump_limit}
 use Rattle.iq.specs.Iq.{header_told, samples_of, Parsed}
-use Rattle.iq.specs.declared.IqAnswer.{IqAnswer}
 use Rattle.iq.proofs.Headers.{parsed-samples}
 use Rattle.sequence.specs.Tracker.{observed}
-use Rattle.sequence.specs.declared.Observed.{Observed}
+use Rattle.sequence.specs.Tracker.{Observed}
 use Rattle.sequence.specs.declared.SeqEvent.{SeqEvent}
 use Rattle.sequence.specs.declared.SeqEvent.TheVariants.{InOrder, Gap, Stale, Restart}
 use Rattle.health.specs.declared.InputHealthCounters.{InputHealthCounters}
@@ -32,7 +33,7 @@ use Rattle.receiving.specs.declared.hear.Judged.{Judged}
 -- ---- the number judged
 
 pub judged-so : (rate : Float) (r : Receiver) (now count since limit : ℕ) (seen : Observed) (event : SeqEvent) (heard : Receiver)
-    → since ≡ elapsed rate r.last_accepted_iq r.parked.window now → limit ≡ jump_limit since rate → seen ≡ observed r.tracker count
+    → since ≡ elapsed rate r.last_accepted_iq r.parked now → limit ≡ jump_limit since rate → seen ≡ observed r.tracker count
     → event ≡ capped limit seen.event → heard ≡ with_tracker (valid r now) seen.tracker
     → ◌≡◌ {A = Judged} (record { event = event; receiver = heard }) (record { event = event_of rate r now count; receiver = left_out r now count })
 unfolding event_of left_out
@@ -45,7 +46,7 @@ judged-so rate r now count since limit seen event heard he hl hs hc hv =
 -- ---- its samples
 
 -- the samples of a datagram with a right header fill the lent array
-pub filled : (b : List ℕ) (d : List Float) (count : ℕ) (r : IqAnswer) (e : List Float) → gives (count ∷ []) ≡ header_told b → length d ≡ 476 → Parsed b d r e
+pub filled : (b : List ℕ) (d : List Float) (count : ℕ) (r : Result ℕ IqError) (e : List Float) → gives (count ∷ []) ≡ header_told b → length d ≡ 476 → Parsed b d r e
     → e ≡ samples_of b
 unfolding samples_of
 filled b d count r e h l p =

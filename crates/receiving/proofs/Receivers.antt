@@ -1,4 +1,6 @@
 -- A receiver whose read opens, and one whose read closes: after a Take, and at a soft stall. Assumes nothing.
+use Rattle.std.specs.Prelude.{Option}
+use Rattle.model.specs.declared.receiver.Parked.{Parked}
 use Prim.Native.Nat.{ℕ, ◌+◌}
 use mathlib.Core.Path.{◌≡◌, ap, ◌∙◌}
 use Rattle.stall.specs.Episode.{delivered, reported}
@@ -8,18 +10,16 @@ use Rattle.model.specs.Pass.{shut}
 use Rattle.model.specs.Rules.{begun}
 use Rattle.model.specs.Take.{handed}
 use Rattle.model.specs.Parts.{with_stall}
-use Rattle.model.specs.declared.receiver.Anchor.{Anchor}
 use Rattle.model.specs.declared.receiver.Receiver.{Receiver}
-use Rattle.model.specs.declared.receiver.Window.{Window}
 
 -- a read opens with this anchor and this window
-abbrev opened_with : Receiver → Anchor → Window → Receiver
+abbrev opened_with : Receiver → Option ℕ → Option Parked → Receiver
 opened_with r anchor window =
     record {
       tracker = r.tracker;
       queue_pos = r.queue_pos;
       reading = record { wait_entered = anchor; entered = anchor };
-      parked = record { window = window };
+      parked = window;
       pending = r.pending;
       last_valid_iq = r.last_valid_iq;
       last_accepted_iq = r.last_accepted_iq;
@@ -27,11 +27,11 @@ opened_with r anchor window =
       stall = r.stall;
     }
 
-pub begun-so : (r : Receiver) (size now : ℕ) (anchor : Anchor) (window : Window) → anchor ≡ or_at r.reading.wait_entered now
-    → window ≡ begun size r.read_returned r.parked.window now → opened_with r anchor window ≡ begun_by size r now
+pub begun-so : (r : Receiver) (size now : ℕ) (anchor : Option ℕ) (window : Option Parked) → anchor ≡ or_at r.reading.wait_entered now
+    → window ≡ begun size r.read_returned r.parked now → opened_with r anchor window ≡ begun_by size r now
 unfolding begun_by
 begun-so r size now anchor window ha hw =
-    ap (λ (x : Anchor). opened_with r x window) ha ∙ ap (opened_with r (or_at r.reading.wait_entered now)) hw
+    ap (λ (x : Option ℕ). opened_with r x window) ha ∙ ap (opened_with r (or_at r.reading.wait_entered now)) hw
 
 -- n pairs more are handed out, of a receiver whose read is closed
 abbrev taken_from : Receiver → ℕ → ℕ → ℕ → StallEpisode → Receiver

@@ -8,7 +8,7 @@ ghost use Rattle.receiving.specs.Hears.{Hears};
 
 use health::InputHealthCounters;
 use iq::parse_iq_datagram;
-use model::receiver::{Anchor, Parked, Reading, Receiver};
+use model::receiver::Receiver;
 use outage::elapsed::{capped, unaccounted};
 use outage::report::{Report, report_event};
 use outage::window::used;
@@ -25,15 +25,9 @@ pub struct Judged {
 fn note_valid(r: Receiver, tracker: SeqTracker, now: u64) -> Receiver
     ensures { result ≡ with_tracker (valid r now) tracker }
 {
-    let reading = r.reading;
-    let entered = reading.entered;
-    let heard = Reading {
-        wait_entered: Anchor::Unset,
-        entered,
-    };
     let mut next = r;
     next.tracker = tracker;
-    next.reading = heard;
+    next.reading.wait_entered = None;
     next.last_valid_iq = now;
     next
 }
@@ -42,17 +36,13 @@ fn note_valid(r: Receiver, tracker: SeqTracker, now: u64) -> Receiver
 fn judge(rate: f64, r: Receiver, now: u64, count: u32) -> Judged
     ensures { result ≡ record { event = event_of rate r now count; receiver = left_out r now count } }
 {
-    let parked = r.parked;
-    let window = parked.window;
-    let since_last = unaccounted(rate, r.last_accepted_iq, window, now);
-    let tracker = r.tracker;
+    let since_last = unaccounted(rate, r.last_accepted_iq, r.parked, now);
+    let mut tracker = r.tracker;
     let seen = tracker.observe(count);
-    let observed = seen.event;
-    let moved = seen.tracker;
-    let event = capped(jump_limit(since_last, rate), observed);
+    let event = capped(jump_limit(since_last, rate), seen);
     Judged {
         event,
-        receiver: note_valid(r, moved, now),
+        receiver: note_valid(r, tracker, now),
     }
 }
 
@@ -60,15 +50,10 @@ fn judge(rate: f64, r: Receiver, now: u64, count: u32) -> Judged
 fn accept(r: Receiver, report: Report, now: u64) -> Receiver
     ensures { result ≡ queued r now report.missing report.pending }
 {
-    let parked = r.parked;
-    let window = parked.window;
-    let after = used(window, report.missing);
-    let parked_after = Parked { window: after };
-    let pending = report.pending;
     let mut next = r;
     next.queue_pos = 0;
-    next.parked = parked_after;
-    next.pending = pending;
+    next.parked = used(r.parked, report.missing);
+    next.pending = report.pending;
     next.last_accepted_iq = now;
     next
 }
@@ -103,7 +88,8 @@ pub fn hear(
     let event = judged.event;
     let valid = judged.receiver;
     let SeqEvent::Stale = event else {
-        parse_iq_datagram(datagram, samples);
+        // whoever routed it has tested the header, and there is room
+        let _ = parse_iq_datagram(datagram, samples);
         let report = report_event(rate, event, valid, health, reading, later, waiting);
         let counted = report.health;
         return Heard {

@@ -11,27 +11,11 @@ use stream::SAMPLES_PER_DATAGRAM;
 // The I/Q pairs of a datagram, and so of the lent samples.
 const PAIRS: usize = SAMPLES_PER_DATAGRAM as usize;
 
-pub fn least(a: usize, b: usize) -> usize
-    ensures { result ≡ min a b }
-{
-    if a <= b { a } else { b }
-}
-
-// How many of `len` places lie at or past `at`.
-fn rest(len: usize, at: usize) -> usize
-    ensures { result ≡ len - at }
-{
-    if at < len {
-        return len - at;
-    }
-    0
-}
-
 // How many samples wait.
 pub fn left(r: Receiver) -> usize
     ensures { result ≡ State.left r }
 {
-    rest(PAIRS, r.queue_pos)
+    PAIRS.saturating_sub(r.queue_pos)
 }
 
 pub fn waits(r: Receiver) -> bool
@@ -44,11 +28,9 @@ pub fn waits(r: Receiver) -> bool
 pub fn copy_out(q: &[f32], from: usize, n: usize, out: &mut [f32])
     ensures { out.new ≡ written out.old 0 (take (min n (length out.old)) (drop from q.now)) }
 {
-    let count = least(least(n, out.len()), rest(q.len(), from));
-    let mut i = 0;
-    while i < count {
+    let count = n.min(out.len()).min(q.len().saturating_sub(from));
+    for i in 0..count {
         out[i] = q[from + i];
-        i += 1;
     }
 }
 
@@ -56,11 +38,9 @@ pub fn copy_out(q: &[f32], from: usize, n: usize, out: &mut [f32])
 pub fn handed(r: Receiver, now: u64, n: usize) -> Receiver
     ensures { result ≡ Take.handed r now (min n (State.left r)) }
 {
-    let pairs = least(n, left(r));
+    let pairs = n.min(left(r));
     let mut next = shut(r);
-    let stall = next.stall;
-    let delivering = stall.note_delivery();
-    next.stall = delivering;
+    next.stall.note_delivery();
     next.queue_pos = r.queue_pos + pairs;
     next.read_returned = now;
     next

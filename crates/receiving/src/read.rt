@@ -8,17 +8,8 @@ ghost use Rattle.model.specs.State as State;
 ghost use Rattle.receiving.specs.Quiet.{quiet_at};
 
 use double::time::since;
-use model::receiver::{Anchor, Parked, Reading, Receiver};
+use model::receiver::{Reading, Receiver};
 use outage::window::begun;
-
-fn is_set(anchor: Anchor) -> bool
-    ensures { result ≡ State.is_set anchor }
-{
-    match anchor {
-        Anchor::Unset => false,
-        Anchor::At(_) => true,
-    }
-}
 
 // 10 of Pass, Arrival and Take: the session is closed, or no read is open.
 pub fn not_reading(closed: bool, r: Receiver) -> bool
@@ -27,9 +18,7 @@ pub fn not_reading(closed: bool, r: Receiver) -> bool
     if closed {
         return true;
     }
-    let reading = r.reading;
-    let entered = reading.entered;
-    !is_set(entered)
+    r.reading.entered.is_none()
 }
 
 // 10 of Begin: the session is closed, or a read is open.
@@ -39,18 +28,14 @@ pub fn not_idle(closed: bool, r: Receiver) -> bool
     if closed {
         return true;
     }
-    let reading = r.reading;
-    let entered = reading.entered;
-    is_set(entered)
+    r.reading.entered.is_some()
 }
 
 // When quiet began: at the last valid I/Q datagram or at the read's anchor, whichever is later.
 pub fn quiet_since(r: Receiver) -> u64
     ensures { result ≡ State.quiet_since_of r }
 {
-    let reading = r.reading;
-    let entered = reading.entered;
-    let Anchor::At(t) = entered else {
+    let Some(t) = r.reading.entered else {
         return r.last_valid_iq;
     };
     if r.last_valid_iq < t {
@@ -59,7 +44,7 @@ pub fn quiet_since(r: Receiver) -> u64
     r.last_valid_iq
 }
 
-// What quiet comes to.
+// What quiet comes to. No closure chooses the step: what each comes to is the pass's own, and is written there beside the others.
 #[derive(Clone, Copy)]
 pub enum Quiet {
     // no stall is due
@@ -88,14 +73,8 @@ pub fn quiet_at(r: Receiver, now: u64, soft_after: u64, stall_after: u64) -> Qui
 pub fn shut(r: Receiver) -> Receiver
     ensures { result ≡ Pass.shut r }
 {
-    let reading = r.reading;
-    let wait_entered = reading.wait_entered;
-    let closed = Reading {
-        wait_entered,
-        entered: Anchor::Unset,
-    };
     let mut next = r;
-    next.reading = closed;
+    next.reading.entered = None;
     next
 }
 
@@ -104,39 +83,27 @@ pub fn stalled(r: Receiver) -> Receiver
     ensures { result ≡ with_stall (Pass.shut r) (reported r.stall) }
 {
     let mut next = shut(r);
-    let stall = next.stall;
-    let reported = stall.report();
-    next.stall = reported;
+    next.stall.report();
     next
 }
 
 // An anchor that is set stays; an empty one becomes this reading.
-fn or_at(anchor: Anchor, now: u64) -> Anchor
+fn or_at(anchor: Option<u64>, now: u64) -> Option<u64>
     ensures { result ≡ Begin.or_at anchor now }
 {
-    match anchor {
-        Anchor::Unset => Anchor::At(now),
-        Anchor::At(t) => Anchor::At(t),
-    }
+    anchor.or(Some(now))
 }
 
 // A read opens: the window after a pause, the wait anchor, and the read's own copy of it.
 pub fn begun_by(r: Receiver, size: u64, now: u64) -> Receiver
     ensures { result ≡ Begin.begun_by size r now }
 {
-    let before = r.reading;
-    let wait_entered = before.wait_entered;
-    let anchor = or_at(wait_entered, now);
-    let paused = r.parked;
-    let window = paused.window;
-    let opened = begun(window, size, r.read_returned, now);
-    let reading = Reading {
+    let anchor = or_at(r.reading.wait_entered, now);
+    let mut next = r;
+    next.reading = Reading {
         wait_entered: anchor,
         entered: anchor,
     };
-    let parked = Parked { window: opened };
-    let mut next = r;
-    next.reading = reading;
-    next.parked = parked;
+    next.parked = begun(r.parked, size, r.read_returned, now);
     next
 }

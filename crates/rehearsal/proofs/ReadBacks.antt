@@ -1,4 +1,6 @@
 -- What a session writes, the practice radio reads back, call by call and over every list of calls. Assumes nothing.
+use Rattle.std.specs.Prelude.{Option, Some, None}
+use Rattle.attenuator.specs.declared.Controller.{Controller}
 use Prim.Native.Nat.{ℕ, zero, suc, ◌^◌, ◌<◌}
 use mathlib.Core.Path.{◌≡◌, refl, sym, ap, ◌∙◌, subst}
 use mathlib.Core.Bool.{true, false}
@@ -32,8 +34,6 @@ use Rattle.model.specs.Close.{stop}
 use Rattle.model.specs.Drain.{take_missing, take_discontinuity, take_stalled}
 use Rattle.model.specs.Session.{step, answered, session}
 use Rattle.model.specs.Timely.{Watch, woken, hearing}
-use Rattle.model.specs.declared.session.Attenuation.{Attenuation}
-use Rattle.model.specs.declared.session.Attenuation.TheVariants.{Off, On}
 use Rattle.model.specs.declared.session.Common.{Common}
 use Rattle.model.specs.declared.session.Session.{Session}
 use Rattle.model.specs.declared.settings.Settings.{Settings}
@@ -170,16 +170,16 @@ module _ (s : Settings) (ok : T (accepts s)) (oct : OfOctets s) where
           (λ _. quiet _ _ refl (record { settings = h.settings; tuning = h.tuning; counts = h.counts }) refl refl)
 
       -- a status packet, the attenuator being this
-      overload-back : (a : Attenuation) (bits : Told)
+      overload-back : (a : Option Controller) (bits : Told)
           → let x = overload later.session i d a bits in BackAs (said_by_step (hearing a bits i.now)) x.reply x.state.common
       unfolding overload pick
-      overload-back Off bits = quiet _ _ refl (ready_at i.later) refl refl
-      overload-back (On controller) (gives []) = quiet _ _ refl (ready_at i.later) refl refl
-      overload-back (On controller) (gives (bits ∷ vs)) =
+      overload-back None bits = quiet _ _ refl (ready_at i.later) refl refl
+      overload-back (Some controller) (gives []) = quiet _ _ refl (ready_at i.later) refl refl
+      overload-back (Some controller) (gives (bits ∷ vs)) =
           let made = Controller.observed controller (overloaded bits) i.now in
           let b = later.session.common in
           (refl, wrote-back _ b (stepped i.later made b) _ d (ready_at i.later) (stepped-says s ok oct i.later made b) refl refl)
-      overload-back (On controller) (refused k vs) = quiet _ _ refl (ready_at i.later) refl refl
+      overload-back (Some controller) (refused k vs) = quiet _ _ refl (ready_at i.later) refl refl
 
       malformed-back : BackAt malformed (keeping st.samples (heard_malformed later.session d))
       unfolding heard_malformed with_one_more

@@ -1,9 +1,10 @@
 -- What a session sends, the practice radio reads back: each packet, packets one behind the other, those that are due, a step's and
 -- those of Close. Assumes nothing.
+use Rattle.std.specs.Prelude.{Option, Some, None}
+use Rattle.attenuator.specs.declared.Controller.{Controller}
 use Prim.Native.Nat.{ℕ, zero, suc, ◌-◌, ◌^◌, ◌<◌}
 use mathlib.Core.Path.{◌≡◌, refl, sym, ap, ◌∙◌, subst}
 use mathlib.Core.Bool.{Bool, true, false}
-use mathlib.Core.Option.{Option, some}
 use mathlib.Core.List.{List, [], ◌∷◌, ◌++◌, append_assoc}
 use native.Mathlib.Omega.{arith}
 use lib.Dec.{T, leb}
@@ -21,16 +22,12 @@ use Rattle.wire.specs.declared.command.Stream.{Stream}
 use Rattle.wire.specs.declared.command.Stream.TheVariants.{General, RxSpecific, TxSpecific, HighPriority}
 use Rattle.attenuator.specs.Controller as Controller
 use Rattle.attenuator.specs.declared.AttenuationStep.{AttenuationStep}
-use Rattle.attenuator.specs.declared.AttenuationStep.TheVariants as step
-use Rattle.attenuator.specs.declared.Stepped.{Stepped}
+use Rattle.attenuator.specs.Controller.{Stepped}
 use Rattle.model.specs.Settings.{accepts}
 use Rattle.model.specs.Open.{tuned}
 use Rattle.model.specs.Sending.{Sending, idle, then, level, count_of, packet_of, raised, high_every, rx_tx_every, general_every, send, send_high, send_rx_tx, send_general, high_if_due, rx_tx_if_due, general_if_due, keepalive, applied, stepped, tick, due_packets, stop_packets}
 use Rattle.model.specs.Timely.{turned, ticking}
-use Rattle.model.specs.Parts.{with_high_priority, with_rx_tx_specific, with_general, with_clocks, with_attenuator}
-use Rattle.model.specs.declared.session.Attenuation.{Attenuation}
-use Rattle.model.specs.declared.session.Attenuation.TheVariants.{Off, On}
-use Rattle.model.specs.declared.session.Attenuator.{Attenuator}
+use Rattle.model.specs.Parts.{with_high_priority, with_rx_tx_specific, with_general, with_clocks, with_attenuation}
 use Rattle.model.specs.declared.session.Common.{Common}
 use Rattle.model.specs.declared.session.Tuning.{Tuning}
 use Rattle.model.specs.declared.settings.Settings.{Settings}
@@ -45,7 +42,7 @@ use Rattle.rehearsal.specs.ReadBack.{Said, said, said_by_step, kept_of, kept_aft
 
 -- the level that the packets of a common carry
 abbrev pub db_of : Common → ℕ
-db_of c = level c.attenuator.attenuation
+db_of c = level c.attenuation
 
 module _ (s : Settings) where
   -- ---- outcomes, one run behind another
@@ -101,7 +98,7 @@ module _ (s : Settings) where
 
     -- ---- one packet
 
-    known-stream : (k : Stream) → stream_at (offset_of k) ≡ some k
+    known-stream : (k : Stream) → stream_at (offset_of k) ≡ Some k
     known-stream General = refl
     known-stream RxSpecific = refl
     known-stream TxSpecific = refl
@@ -189,23 +186,23 @@ module _ (s : Settings) where
 
     -- what a keepalive leaves of the clocks of the others, and of the attenuator
     record Keeps (c d : Common) : Type 0 where
-      pub attenuator : d.attenuator ≡ c.attenuator
+      pub attenuation : d.attenuation ≡ c.attenuation
       pub general : d.clocks.general ≡ c.clocks.general
 
     high-keeps : (now : ℕ) (c : Common) → Keeps c (high_if_due now c).common × ((high_if_due now c).common.clocks.rx_tx_specific ≡ c.clocks.rx_tx_specific)
     unfolding high_if_due send_high send
     high-keeps now c =
         pick-either _ _ _ (λ (out : Sending). Keeps c out.common × (out.common.clocks.rx_tx_specific ≡ c.clocks.rx_tx_specific))
-        (λ _. (record { attenuator = refl; general = refl }, refl)) (λ _. (record { attenuator = refl; general = refl }, refl))
+        (λ _. (record { attenuation = refl; general = refl }, refl)) (λ _. (record { attenuation = refl; general = refl }, refl))
 
     rx-tx-keeps : (now : ℕ) (c : Common) → Keeps c (rx_tx_if_due now c).common
     unfolding rx_tx_if_due send_rx_tx send
     rx-tx-keeps now c =
-        pick-either _ _ _ (λ (out : Sending). Keeps c out.common) (λ _. record { attenuator = refl; general = refl }) (λ _. record { attenuator = refl; general = refl })
+        pick-either _ _ _ (λ (out : Sending). Keeps c out.common) (λ _. record { attenuation = refl; general = refl }) (λ _. record { attenuation = refl; general = refl })
 
-    general-keeps : (now : ℕ) (c : Common) → (general_if_due now c).common.attenuator ≡ c.attenuator
+    general-keeps : (now : ℕ) (c : Common) → (general_if_due now c).common.attenuation ≡ c.attenuation
     unfolding general_if_due send_general send
-    general-keeps now c = pick-either _ _ _ (λ (out : Sending). out.common.attenuator ≡ c.attenuator) (λ _. refl) (λ _. refl)
+    general-keeps now c = pick-either _ _ _ (λ (out : Sending). out.common.attenuation ≡ c.attenuation) (λ _. refl) (λ _. refl)
 
     -- the lists of what each says, by a clock and a level
     abbrev high_list : ℕ → ℕ → ℕ → List Said
@@ -230,8 +227,8 @@ module _ (s : Settings) where
     general-due-says now c = if-says _ c (send_general now c) _ (general-says now c)
 
     -- the same level
-    level-same : {a b : Attenuator} → a ≡ b → level a.attenuation ≡ level b.attenuation
-    level-same e = ap (λ (x : Attenuator). level x.attenuation) e
+    level-same : {a b : Option Controller} → a ≡ b → level a ≡ level b
+    level-same e = ap level e
 
     keepalive-says : (now : ℕ) (c : Common)
         → Says c (keepalive now c) (high_list now c.clocks.high_priority (db_of c) ++ (rx_tx_list now c.clocks.rx_tx_specific (db_of c) ++ general_list now c.clocks.general (db_of c)))
@@ -241,8 +238,8 @@ module _ (s : Settings) where
         let d = (high_if_due now c).common in
         let e = (rx_tx_if_due now d).common in
         let k = rx-tx-keeps now d in
-        let rx : rx_tx_list now d.clocks.rx_tx_specific (db_of d) ≡ rx_tx_list now c.clocks.rx_tx_specific (db_of c) = both (rx_tx_list now) h.1 (level-same h.0.attenuator) in
-        let gen : general_list now e.clocks.general (db_of e) ≡ general_list now c.clocks.general (db_of c) = both (general_list now) (k.general ∙ h.0.general) (level-same k.attenuator ∙ level-same h.0.attenuator) in
+        let rx : rx_tx_list now d.clocks.rx_tx_specific (db_of d) ≡ rx_tx_list now c.clocks.rx_tx_specific (db_of c) = both (rx_tx_list now) h.1 (level-same h.0.attenuation) in
+        let gen : general_list now e.clocks.general (db_of e) ≡ general_list now c.clocks.general (db_of c) = both (general_list now) (k.general ∙ h.0.general) (level-same k.attenuation ∙ level-same h.0.attenuation) in
         then-says c (high_if_due now c) (λ (d : Common). then (rx_tx_if_due now d) (general_if_due now)) _ _ (high-due-says now c)
         (subst (Says d (then (rx_tx_if_due now d) (general_if_due now))) (both ◌++◌ rx gen)
         (then-says d (rx_tx_if_due now d) (general_if_due now) _ _ (rx-tx-due-says now d) (general-due-says now e)))
@@ -250,40 +247,40 @@ module _ (s : Settings) where
         both : {A B C : Type 0} (f : A → B → C) {a x : A} {b y : B} → a ≡ x → b ≡ y → f a b ≡ f x y
         both f p q = cc
 
-    keepalive-keeps : (now : ℕ) (c : Common) → (keepalive now c).common.attenuator ≡ c.attenuator
+    keepalive-keeps : (now : ℕ) (c : Common) → (keepalive now c).common.attenuation ≡ c.attenuation
     unfolding keepalive
     keepalive-keeps now c =
         let d = (high_if_due now c).common in
         let e = (rx_tx_if_due now d).common in
-        general-keeps now e ∙ (rx-tx-keeps now d).attenuator ∙ (high-keeps now c).0.attenuator
+        general-keeps now e ∙ (rx-tx-keeps now d).attenuation ∙ (high-keeps now c).0.attenuation
 
     -- ---- the attenuator
 
-    applied-says : (now : ℕ) (made : AttenuationStep) (a : Attenuation) (c : Common) → c.attenuator.attenuation ≡ a → Says c (applied now made c) (said_by_step (record { step = made; attenuation = a }))
+    applied-says : (now : ℕ) (made : Option AttenuationStep) (a : Option Controller) (c : Common) → c.attenuation ≡ a → Says c (applied now made c) (said_by_step (record { step = made; attenuation = a }))
     unfolding applied pick
-    applied-says now step.NoStep a c e = idle-says c
-    applied-says now (step.Step from to cause) a c e = subst (λ (x : Attenuation). Says c (send_high now c) (said HighPriority true (level x) ∷ [])) e (high-says now c)
+    applied-says now None a c e = idle-says c
+    applied-says now (Some s) a c e = subst (λ (x : Option Controller). Says c (send_high now c) (said HighPriority true (level x) ∷ [])) e (high-says now c)
 
     pub stepped-says : (now : ℕ) (made : Stepped) (c : Common) → Says c (stepped now made c) (said_by_step (turned made))
     unfolding stepped
     stepped-says now made c =
-        let d = with_attenuator c (record { attenuation = On made.controller }) in
-        as-says c d _ _ refl refl refl (applied-says now made.step (On made.controller) d refl)
+        let d = with_attenuation c (Some made.controller) in
+        as-says c d _ _ refl refl refl (applied-says now made.step (Some made.controller) d refl)
 
-    tick-says : (now : ℕ) (a : Attenuation) (c : Common) → Says c (tick now a c) (said_by_step (ticking a now))
+    tick-says : (now : ℕ) (a : Option Controller) (c : Common) → Says c (tick now a c) (said_by_step (ticking a now))
     unfolding tick pick
-    tick-says now Off c = idle-says c
-    tick-says now (On controller) c = stepped-says now (Controller.ticked controller now) c
+    tick-says now None c = idle-says c
+    tick-says now (Some controller) c = stepped-says now (Controller.ticked controller now) c
 
     pub due-says : (now : ℕ) (c : Common)
         → Says c (due_packets now c)
         ((high_list now c.clocks.high_priority (db_of c) ++ (rx_tx_list now c.clocks.rx_tx_specific (db_of c) ++ general_list now c.clocks.general (db_of c)))
-        ++ said_by_step (ticking c.attenuator.attenuation now))
+        ++ said_by_step (ticking c.attenuation now))
     unfolding due_packets
     due-says now c =
         let d = (keepalive now c).common in
-        then-says c (keepalive now c) (λ (d : Common). tick now d.attenuator.attenuation d) _ _ (keepalive-says now c)
-        (subst (λ (x : Attenuator). Says d (tick now d.attenuator.attenuation d) (said_by_step (ticking x.attenuation now))) (keepalive-keeps now c) (tick-says now d.attenuator.attenuation d))
+        then-says c (keepalive now c) (λ (d : Common). tick now d.attenuation d) _ _ (keepalive-says now c)
+        (subst (λ (x : Option Controller). Says d (tick now d.attenuation d) (said_by_step (ticking x now))) (keepalive-keeps now c) (tick-says now d.attenuation d))
 
     -- ---- Close
 

@@ -1,4 +1,7 @@
 -- A list run in parts is the list run whole, and demand 3 holds of what was written. Assumes nothing.
+use Rattle.std.specs.Prelude.{is_ok, ⊤, Result, Ok, Err}
+use Rattle.encoding.specs.declared.check.ListError.{ListError}
+use Rattle.encoding.specs.declared.check.ListError.TheVariants.{NotOpened, Lengths, NoCall, NoRoom}
 use Prim.Native.Nat.{ℕ}
 use mathlib.Core.Path.{◌≡◌, refl, sym, ap, subst, ◌∙◌}
 use mathlib.Core.Bool.{Bool, true, false}
@@ -18,12 +21,10 @@ use Rattle.account.specs.Demand3.{Account}
 use Rattle.model.proofs.Traces.{trace-append, final-append}
 use Rattle.account.proofs.Demand3.{demand3}
 use Rattle.model.specs.declared.settings.Settings.{Settings}
-use Rattle.encoding.specs.Lists.{Lent, decoded, outcome_of, is_ran}
+use Rattle.encoding.specs.Lists.{Lent, decoded, outcome_of}
 use Rattle.replay.specs.Runs.{host, Left, all_run, carried, Carries}
 use Rattle.replay.specs.Replay.{replies_in, numbered}
 use Rattle.replay.specs.Chunks.{Runs}
-use Rattle.encoding.specs.declared.check.Outcome.{Outcome}
-use Rattle.encoding.specs.declared.check.Outcome.TheVariants.{Ran, NotOpened, Lengths, NoCall, NoRoom}
 use Rattle.encoding.proofs.Checks.{lengths}
 use Rattle.replay.proofs.ReadBack.{read_back}
 
@@ -64,28 +65,28 @@ runs-account s opening samples cs rs st ok size r numbers =
 
 -- ---- what the code left
 
-pub ran-is : (t : Outcome) → is_ran t ≡ true → t ≡ Ran
-ran-is Ran h = refl
-ran-is NotOpened h = let z : ◌≡◌ {A = ℕ} 0 1 = cc in absurd (omega arith)
-ran-is Lengths h = let z : ◌≡◌ {A = ℕ} 0 1 = cc in absurd (omega arith)
-ran-is (NoCall i) h = let z : ◌≡◌ {A = ℕ} 0 1 = cc in absurd (omega arith)
-ran-is (NoRoom i) h = let z : ◌≡◌ {A = ℕ} 0 1 = cc in absurd (omega arith)
+pub ran-is : (t : Result ⊤ ListError) → is_ok t ≡ true → t ≡ Ok tt
+ran-is (Ok u) h = refl
+ran-is (Err NotOpened) h = let z : ◌≡◌ {A = ℕ} 0 1 = cc in absurd (omega arith)
+ran-is (Err Lengths) h = let z : ◌≡◌ {A = ℕ} 0 1 = cc in absurd (omega arith)
+ran-is (Err (NoCall i)) h = let z : ◌≡◌ {A = ℕ} 0 1 = cc in absurd (omega arith)
+ran-is (Err (NoRoom i)) h = let z : ◌≡◌ {A = ℕ} 0 1 = cc in absurd (omega arith)
 
-module _ (outcome : Outcome) (st : State) (l : Lent) (answers₀ answers packets : List ℕ) (places : List Float) (st' : State)
-    (c : Carries outcome st l answers₀ answers packets places st') (e : outcome ≡ Ran) where
+module _ (outcome : Result ⊤ ListError) (st : State) (l : Lent) (answers₀ answers packets : List ℕ) (places : List Float) (st' : State)
+    (c : Carries outcome st l answers₀ answers packets places st') (e : outcome ≡ Ok tt) where
   -- it was run
-  fine-list : outcome_of l (length answers₀) ≡ Ran
+  fine-list : outcome_of l (length answers₀) ≡ Ok tt
   unfolding carried
-  fine-list = go (is_ran (outcome_of l (length answers₀))) refl
+  fine-list = go (is_ok (outcome_of l (length answers₀))) refl
     where
-      go : (b : Bool) → is_ran (outcome_of l (length answers₀)) ≡ b → outcome_of l (length answers₀) ≡ Ran
+      go : (b : Bool) → is_ok (outcome_of l (length answers₀)) ≡ b → outcome_of l (length answers₀) ≡ Ok tt
       go true h = ran-is _ h
       go false h =
           sym (ap (λ (x : Left). x.outcome) (c.leaves ∙ pick-f _ _ _ h)) ∙ e
 
   all_left : record { outcome = outcome; answers = answers; packets = packets; places = places; state = st' } ≡ all_run st l
   unfolding carried
-  all_left = c.leaves ∙ pick-t _ _ _ (ap is_ran fine-list)
+  all_left = c.leaves ∙ pick-t _ _ _ (ap is_ok fine-list)
 
   pub carries-runs : Runs st (decoded l) (replies_in l.calls answers packets places) st'
   carries-runs =

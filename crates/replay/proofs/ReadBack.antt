@@ -1,4 +1,5 @@
 -- What a run wrote, read back, is what its calls replied. Assumes nothing.
+use Rattle.std.specs.Prelude.{Ok}
 use Prim.Native.Nat.{ℕ, zero, suc, ◌+◌, ◌*◌, ◌/◌, ◌≤◌}
 use mathlib.Core.Path.{◌≡◌, refl, sym, ap, ◌∙◌}
 use mathlib.Core.List.{List, [], ◌∷◌, ◌++◌, append_assoc, append-nil}
@@ -20,7 +21,6 @@ use Rattle.answers.specs.Code.{numbers_in, answer_in, streams_in}
 use Rattle.replay.specs.Runs.{host, all, packets_in, buffer_in}
 use Rattle.replay.specs.Replay.{reply_at, replies_from, replies_in}
 use Rattle.encoding.specs.declared.words.Amounts.{Amounts}
-use Rattle.encoding.specs.declared.check.Outcome.TheVariants.{Ran}
 use Rattle.encoding.proofs.Fitting.{within-says}
 use Rattle.encoding.proofs.Checks.{fine-next}
 use Rattle.answers.proofs.Decodes.{numbers-size, answer-is, streams-are}
@@ -59,7 +59,7 @@ module _ (l : Lent) where
         (room-suffices st (call_at l i taken)).buffer ∙ ap length (lends w _ _ _ _).1
         ∙ part-size (eqb w.kind 3) w.places taken.places l.places h.places
 
-  read-from : (k i : ℕ) (taken : Amounts) (st : State) (a a' p p' : List ℕ) (q q' : List Float) → check_from l.calls (room l) k i taken ≡ Ran
+  read-from : (k i : ℕ) (taken : Amounts) (st : State) (a a' p p' : List ℕ) (q q' : List Float) → check_from l.calls (room l) k i taken ≡ Ok tt
       → length a ≡ 8 * i → length p ≡ taken.packets → length q ≡ taken.places
       → replies_from l.calls k i taken (a ++ (all numbers_in (trace host st (calls_from l k i taken)) ++ a')) (p ++ (all packets_in (trace host st (calls_from l k i taken)) ++ p')) (q ++ (all buffer_in (trace host st (calls_from l k i taken)) ++ q'))
       ≡ trace host st (calls_from l k i taken)
@@ -90,7 +90,7 @@ module _ (l : Lent) where
       cons-is _ _ _ _ first others
 
   -- of the whole list
-  pub read_back : (st : State) (a p : List ℕ) (q : List Float) → check_from l.calls (room l) (length l.calls / 8) 0 nothing ≡ Ran
+  pub read_back : (st : State) (a p : List ℕ) (q : List Float) → check_from l.calls (room l) (length l.calls / 8) 0 nothing ≡ Ok tt
       → a ≡ all numbers_in (trace host st (decoded l)) → p ≡ written l.packets 0 (all packets_in (trace host st (decoded l)))
       → q ≡ written l.places 0 (all buffer_in (trace host st (decoded l))) → replies_in l.calls a p q ≡ trace host st (decoded l)
   read_back st a p q h ea ep eq =

@@ -1,4 +1,8 @@
 -- What `carry_on` and `replay` return, from what their parts were promised. Assumes nothing.
+use Rattle.std.specs.Prelude.{is_ok, ⊤, Result, Ok, Err}
+use Rattle.encoding.specs.declared.check.ListError.{ListError}
+use Rattle.encoding.specs.declared.check.ListError.TheVariants.{NotOpened}
+use Rattle.model.specs.declared.settings.SettingsError.{SettingsError}
 use Prim.Native.Nat.{ℕ}
 use mathlib.Core.Path.{◌≡◌, sym, ap, subst, ◌∙◌}
 use mathlib.Core.Bool.{Bool, true, false}
@@ -14,27 +18,24 @@ use Rattle.model.specs.State.{State}
 use Rattle.model.specs.Session.{opened_with}
 use Rattle.model.specs.declared.session.Session.{Session}
 use Rattle.model.specs.declared.settings.Settings.{Settings}
-use Rattle.model.specs.declared.settings.SettingsAnswer.{SettingsAnswer}
 use Rattle.opening.specs.Opens.{Opens}
 use Rattle.model.specs.Gives.{joined}
-use Rattle.encoding.specs.Lists.{Lent, outcome_of, is_ran}
+use Rattle.encoding.specs.Lists.{Lent, outcome_of}
 use Rattle.replay.specs.Runs.{untouched, carried, Carries, RunsAll}
 use Rattle.replay.specs.Replay.{replayed, Replays}
-use Rattle.encoding.specs.declared.check.Outcome.{Outcome}
-use Rattle.encoding.specs.declared.check.Outcome.TheVariants.{Ran, NotOpened}
 use Rattle.replay.proofs.Chunks.{ran-is, carries-runs, runs-account}
 
 -- ---- carried on
 
-module _ (outcome : Outcome) (b : Bool) (st : State) (l : Lent) (answers₀ : List ℕ) (e : outcome ≡ outcome_of l (length answers₀)) (h : b ≡ is_ran outcome) where
-  pub ran-told : b ≡ true → outcome_of l (length answers₀) ≡ Ran
-  ran-told k = ran-is _ (ap is_ran (sym e) ∙ sym h ∙ k)
+module _ (outcome : Result ⊤ ListError) (b : Bool) (st : State) (l : Lent) (answers₀ : List ℕ) (e : outcome ≡ outcome_of l (length answers₀)) (h : b ≡ is_ok outcome) where
+  pub ran-told : b ≡ true → outcome_of l (length answers₀) ≡ Ok tt
+  ran-told k = ran-is _ (ap is_ok (sym e) ∙ sym h ∙ k)
 
   pub refused-list : b ≡ false → Carries outcome st l answers₀ answers₀ l.packets l.places st
   unfolding carried
   refused-list k =
-      let f : is_ran (outcome_of l (length answers₀)) ≡ false = ap is_ran (sym e) ∙ sym h ∙ k in
-      record { leaves = ap (λ (t : Outcome). untouched t st l answers₀) e ∙ sym (pick-f _ _ _ f) }
+      let f : is_ok (outcome_of l (length answers₀)) ≡ false = ap is_ok (sym e) ∙ sym h ∙ k in
+      record { leaves = ap (λ (t : Result ⊤ ListError). untouched t st l answers₀) e ∙ sym (pick-f _ _ _ f) }
 
   pub run-list : b ≡ true → (answers packets : List ℕ) (places : List Float) (st' : State) → RunsAll st l answers packets places st'
       → Carries outcome st l answers₀ answers packets places st'
@@ -43,30 +44,30 @@ module _ (outcome : Outcome) (b : Bool) (st : State) (l : Lent) (answers₀ : Li
       let g = ran-told k in
       record {
         leaves =
-            ap (λ (t : Outcome). record { outcome = t; answers = answers; packets = packets; places = places; state = st' }) (e ∙ g)
+            ap (λ (t : Result ⊤ ListError). record { outcome = t; answers = answers; packets = packets; places = places; state = st' }) (e ∙ g)
             ∙ r.leaves
-            ∙ sym (pick-t _ _ _ (ap is_ran g));
+            ∙ sym (pick-t _ _ _ (ap is_ok g));
       }
 
 -- ---- from a session just opened
 
-module _ (s : Settings) (opening : ℕ) (answer : SettingsAnswer) (x : Session) (b : Bool) (samples : List Float) (l : Lent) (answers₀ : List ℕ)
+module _ (s : Settings) (opening : ℕ) (answer : Result ℕ SettingsError) (x : Session) (b : Bool) (samples : List Float) (l : Lent) (answers₀ : List ℕ)
     (o : Opens (record { answer = answer; session = x }) s opening) (h : b ≡ is_given (settings_answer answer)) where
   accepts-is : (v : Bool) → b ≡ v → accepts s ≡ v
   unfolding accepts
   accepts-is v k = ap is_given (sym o.answers) ∙ sym h ∙ k
 
-  pub not_opened : b ≡ false → Replays s opening answer NotOpened samples l answers₀ answers₀ l.packets l.places (joined x samples)
+  pub not_opened : b ≡ false → Replays s opening answer (Err NotOpened) samples l answers₀ answers₀ l.packets l.places (joined x samples)
   unfolding replayed opened
   not_opened k =
       let f = accepts-is false k in
       record {
         opens = o.answers;
-        leaves = ap (λ (t : Session). untouched NotOpened (joined t samples) l answers₀) (o.leaves ∙ pick-f _ _ _ f) ∙ sym (pick-f _ _ _ f);
+        leaves = ap (λ (t : Session). untouched (Err NotOpened) (joined t samples) l answers₀) (o.leaves ∙ pick-f _ _ _ f) ∙ sym (pick-f _ _ _ f);
         account = λ e numbers. let z : ◌≡◌ {A = ℕ} 0 1 = cc in absurd (omega arith);
       }
 
-  pub replays : b ≡ true → length samples ≡ 476 → (outcome : Outcome) (answers packets : List ℕ) (places : List Float) (st : State)
+  pub replays : b ≡ true → length samples ≡ 476 → (outcome : Result ⊤ ListError) (answers packets : List ℕ) (places : List Float) (st : State)
       → Carries outcome (joined x samples) l answers₀ answers packets places st → Replays s opening answer outcome samples l answers₀ answers packets places st
   unfolding replayed
   replays k size outcome answers packets places st c =

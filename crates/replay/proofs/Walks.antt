@@ -1,4 +1,5 @@
 -- The walk that runs a list, one call on: what was answered so far, and what of the list is left. Assumes nothing.
+use Rattle.std.specs.Prelude.{Ok}
 use Prim.Native.Nat.{ℕ, suc, ◌+◌, ◌-◌, ◌*◌, ◌/◌, ◌≤◌, ◌<◌}
 use mathlib.Core.Path.{◌≡◌, refl, sym, ap, subst, ◌∙◌}
 use mathlib.Core.Bool.{true}
@@ -18,13 +19,12 @@ use Rattle.turns.specs.Turns.{Turns, TurnsAt}
 use Rattle.replay.specs.Runs.{host, Left, all, packets_in, buffer_in, RunsAll}
 use Rattle.encoding.specs.declared.words.Words.{Words}
 use Rattle.encoding.specs.declared.words.Amounts.{Amounts}
-use Rattle.encoding.specs.declared.check.Outcome.TheVariants.{Ran}
 use Rattle.encoding.proofs.Fitting.{within-says}
 use Rattle.encoding.proofs.Checks.{fine}
 use Rattle.replay.proofs.Fronts.{Laid, laid_none, part-is, laid_more, laid_as, laid-all, all_more, as_lent}
 
 left_is : (a a' p p' : List ℕ) (q q' : List Float) (s s' : State) → a ≡ a' → p ≡ p' → q ≡ q' → s ≡ s'
-    → ◌≡◌ {A = Left} (record { outcome = Ran; answers = a; packets = p; places = q; state = s }) (record { outcome = Ran; answers = a'; packets = p'; places = q'; state = s' })
+    → ◌≡◌ {A = Left} (record { outcome = Ok tt; answers = a; packets = p; places = q; state = s }) (record { outcome = Ok tt; answers = a'; packets = p'; places = q'; state = s' })
 left_is a a' p p' q q' s s' ea ep eq es = cc
 
 module _ (st₀ : State) (l : Lent) (answers₀ : List ℕ) (n : ℕ) where
@@ -33,7 +33,7 @@ module _ (st₀ : State) (l : Lent) (answers₀ : List ℕ) (n : ℕ) where
   left_of cs =
       let rs = trace host st₀ cs in
       record {
-        outcome = Ran;
+        outcome = Ok tt;
         answers = all numbers_in rs;
         packets = written l.packets 0 (all packets_in rs);
         places = written l.places 0 (all buffer_in rs);
@@ -52,13 +52,13 @@ module _ (st₀ : State) (l : Lent) (answers₀ : List ℕ) (n : ℕ) where
     pub answered : Laid (all numbers_in done) (8 * i) answers₀ answers
     pub wrote : Laid (all packets_in done) taken.packets l.packets packets
     pub handed : Laid (all buffer_in done) taken.places l.places places
-    pub checked : check_from l.calls (room l) (n - i) i taken ≡ Ran
+    pub checked : check_from l.calls (room l) (n - i) i taken ≡ Ok tt
     pub fits : Within taken (room l)
 
   done-as : (i : ℕ) (taken : Amounts) (st : State) (a a' p p' : List ℕ) (q q' : List Float) → a' ≡ a → p' ≡ p → q' ≡ q → Done i taken st a p q → Done i taken st a' p' q'
   done-as i taken st a a' p p' q q' ea ep eq d = rw (ea, ep, eq) d
 
-  pub at_first : (taken : Amounts) → taken ≡ nothing → check_from l.calls (room l) n 0 nothing ≡ Ran → Done 0 taken st₀ answers₀ l.packets l.places
+  pub at_first : (taken : Amounts) → taken ≡ nothing → check_from l.calls (room l) n 0 nothing ≡ Ok tt → Done 0 taken st₀ answers₀ l.packets l.places
   at_first taken e h =
       let z : n - 0 ≡ n = omega arith in
       subst (λ (t : Amounts). Done 0 t st₀ answers₀ l.packets l.places) (sym e)

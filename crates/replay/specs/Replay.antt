@@ -1,5 +1,8 @@
 -- A list run from a session just opened: what it leaves, and demand 3's account of what it wrote. Definitions only.
-use Rattle.std.specs.Prelude.{ℕ, zero, suc, ◌+◌, ◌*◌, ◌/◌, ◌≡◌, List, [], ◌∷◌, length, get_or, drop, Float, ℤ, pos}
+use Rattle.std.specs.Prelude.{⊤, ℕ, zero, suc, ◌+◌, ◌*◌, ◌/◌, ◌≡◌, List, [], ◌∷◌, length, get_or, drop, Float, ℤ, pos, Result, Ok, Err}
+use Rattle.encoding.specs.declared.check.ListError.{ListError}
+use Rattle.encoding.specs.declared.check.ListError.TheVariants.{NotOpened}
+use Rattle.model.specs.declared.settings.SettingsError.{SettingsError}
 use Rattle.base.specs.Pick.{pick}
 use Rattle.model.specs.Host.{Call, Reply}
 use Rattle.model.specs.Settings.{settings_answer, settings_told, accepts}
@@ -9,15 +12,12 @@ use Rattle.model.specs.Session.{opened_with}
 use Rattle.account.specs.Ledger.{Sent}
 use Rattle.account.specs.Demand3.{Account}
 use Rattle.model.specs.declared.settings.Settings.{Settings}
-use Rattle.model.specs.declared.settings.SettingsAnswer.{SettingsAnswer}
 use Rattle.model.specs.Gives.{joined}
 use Rattle.encoding.specs.Words.{words_at, taken_by, nothing}
 use Rattle.answers.specs.Code.{answer_in, streams_in}
 use Rattle.encoding.specs.Lists.{Lent, part, taken_with, decoded}
 use Rattle.replay.specs.Runs.{Left, untouched, carried}
 use Rattle.encoding.specs.declared.words.Amounts.{Amounts}
-use Rattle.encoding.specs.declared.check.Outcome.{Outcome}
-use Rattle.encoding.specs.declared.check.Outcome.TheVariants.{Ran, NotOpened}
 
 -- ---- what it wrote, read back
 
@@ -50,12 +50,12 @@ numbered (c ∷ cs) ns = record { call = c; number = get_or ns 0 (pos 0) } ∷ n
 -- where the settings are refused nothing is run, and the session is the one beside a refusal
 unfoldable pub replayed : Settings → ℕ → List Float → Lent → List ℕ → Left
 replayed s opening samples l answers =
-    pick (accepts s) (carried (opened_with samples s opening) l answers) (untouched NotOpened (joined unopened samples) l answers)
+    pick (accepts s) (carried (opened_with samples s opening) l answers) (untouched (Err NotOpened) (joined unopened samples) l answers)
 
-pub record Replays (s : Settings) (opening : ℕ) (answer : SettingsAnswer) (outcome : Outcome) (samples : List Float) (l : Lent) (answers₀ answers packets : List ℕ)
+pub record Replays (s : Settings) (opening : ℕ) (answer : Result ℕ SettingsError) (outcome : Result ⊤ ListError) (samples : List Float) (l : Lent) (answers₀ answers packets : List ℕ)
     (places : List Float) (st : State) : Type 0 where
   pub opens : settings_answer answer ≡ settings_told s
   pub leaves : record { outcome = outcome; answers = answers; packets = packets; places = places; state = st } ≡ replayed s opening samples l answers₀
   -- demand 3, for every numbering of the calls
-  pub account : outcome ≡ Ran → (numbers : List ℤ)
+  pub account : outcome ≡ Ok tt → (numbers : List ℤ)
       → Account s opening (numbered (decoded l) numbers) (replies_in l.calls answers packets places) (waiting_in st.session.receiver st.samples)

@@ -1,16 +1,15 @@
 // A list of calls, run: from a session just opened, or carried on from one that has run already.
-ghost use Rattle.std.specs.Prelude.{◌≡◌, length};
+ghost use Rattle.std.specs.Prelude.{◌≡◌, length, Ok};
 ghost use Rattle.model.specs.Settings.{settings_answer, is_given};
 ghost use Rattle.model.specs.Gives.{joined};
 ghost use Rattle.encoding.specs.Lists.{lent_by, outcome_of};
 ghost use Rattle.replay.specs.Runs.{RunsAll, Carries};
 ghost use Rattle.replay.specs.Replay.{Replays};
-ghost use Rattle.encoding.specs.declared.check.Outcome.TheVariants.{Ran};
 
-use encoding::check::{Outcome, check, is_ran};
+use encoding::check::{ListError, check};
 use encoding::words::{Amounts, CALL_LEN, nothing, plus, taken_by, words_at};
 use model::session::Session;
-use model::settings::{Settings, SettingsAnswer};
+use model::settings::{Settings, SettingsError};
 use opening::open::open;
 use opening::settings::refusal;
 use stream::F32_PER_DATAGRAM;
@@ -19,7 +18,7 @@ use turns::turn::turn_at;
 // What became of a list, and the session after it.
 #[derive(Clone, Copy)]
 pub struct Carried {
-    pub outcome: Outcome,
+    pub outcome: Result<(), ListError>,
     pub session: Session,
 }
 
@@ -34,7 +33,7 @@ fn run(
     places: &mut [f32],
     answers: &mut [u64],
 ) -> Session
-    requires { outcome_of (lent_by calls.now octets.now numbers.now packets.old places.old) (length answers.old) ≡ Ran }
+    requires { outcome_of (lent_by calls.now octets.now numbers.now packets.old places.old) (length answers.old) ≡ Ok tt }
     ensures { RunsAll (joined first samples.old)
         (lent_by calls.now octets.now numbers.now packets.old
         places.old)
@@ -49,8 +48,7 @@ fn run(
     let n = calls.len() / CALL_LEN;
     let mut s = first;
     let mut taken = nothing();
-    let mut i = 0;
-    while i < n {
+    for i in 0..n {
         let w = words_at(calls, 8 * i);
         let need = taken_by(w);
         let next = plus(taken, need, room);
@@ -68,21 +66,20 @@ fn run(
             answers,
         );
         taken = next;
-        i += 1;
     }
     s
 }
 
-fn is_accepted(answer: SettingsAnswer) -> bool
+fn is_accepted(answer: Result<u16, SettingsError>) -> bool
     ensures { result ≡ is_given (settings_answer answer) }
 {
     refusal(answer) == 0
 }
 
 // Runs a list of calls from any session. `calls` has eight numbers a call (`encoding::words`), `answers` as many places; `octets`,
-// `numbers`, `packets` and `places` hold what the calls lend, one behind the other. Ran: each answer stands in its eight places
-// (`answers`), each packet and sample in its call's own part. Any other outcome names what is wrong with the list: the
-// session and every lent buffer are then as they were.
+// `numbers`, `packets` and `places` hold what the calls lend, one behind the other. Ok: each answer stands in its eight places
+// (`answers`), each packet and sample in its call's own part. An Err names what is wrong with the list: the session and every lent
+// buffer are then as they were.
 pub fn carry_on(
     s: Session,
     samples: &mut [f32; F32_PER_DATAGRAM],
@@ -106,7 +103,7 @@ pub fn carry_on(
         places: places.len(),
     };
     let outcome = check(calls, room, answers.len());
-    if !is_ran(outcome) {
+    if !outcome.is_ok() {
         return Carried {
             outcome,
             session: s,
@@ -126,14 +123,14 @@ fn lent_samples(samples: &[f32]) -> usize
 // What Open answered, what became of the list, and the session after it.
 #[derive(Clone, Copy)]
 pub struct Replayed {
-    pub answer: SettingsAnswer,
-    pub outcome: Outcome,
+    pub answer: Result<u16, SettingsError>,
+    pub outcome: Result<(), ListError>,
     pub session: Session,
 }
 
 // Runs a list of calls from a session just opened with these settings and this opening reading; what is lent is as for `carry_on`.
-// NotOpened: the settings were refused, `answer` says by which row, and nothing is run. Of a list that was run, demand 3 holds: it is
-// part of the promise.
+// Err(NotOpened): the settings were refused, `answer` says by which row, and nothing is run. Of a list that was run, demand 3 holds: it
+// is part of the promise.
 pub fn replay(
     settings: Settings,
     opening: u64,
@@ -157,7 +154,7 @@ pub fn replay(
     if !is_accepted(answer) {
         return Replayed {
             answer,
-            outcome: Outcome::NotOpened,
+            outcome: Err(ListError::NotOpened),
             session: s,
         };
     }

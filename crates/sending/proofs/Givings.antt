@@ -1,19 +1,16 @@
 -- What a call gives that wrote nothing, and one that wrote packets. Assumes nothing.
-use Rattle.std.proofs.Common.{◌≡◌, ℕ, ◌≤◌, List, [], length, sym, refl, ap, subst, arith}
+use Rattle.std.specs.Prelude.{⊤, Result}
+use Rattle.model.specs.declared.answer.Refusal.{Refusal}
+use Rattle.model.specs.declared.answer.Answered.{Answered}
+use Rattle.std.proofs.Common.{◌≡◌, ◌∙◌, ℕ, ◌≤◌, List, [], length, sym, refl, ap, subst, arith}
 use lib.Ieee.{Float}
 use Rattle.octets.specs.Written.{written}
-use Rattle.model.specs.Answer.{Answer, pass_answer, arrival_answer, close_answer}
+use Rattle.model.specs.Answer.{Answer}
 use Rattle.model.specs.Host.{Step}
 use Rattle.model.specs.State.{State, replied, keeping}
 use Rattle.model.specs.Sending.{Sending, wrote}
 use Rattle.model.specs.Command.{streams_as}
 use Rattle.model.specs.Parts.{with_common}
-use Rattle.model.specs.declared.answer.Arrived.{Arrived}
-use Rattle.model.specs.declared.answer.ArrivalAnswer.{ArrivalAnswer}
-use Rattle.model.specs.declared.answer.CloseAnswer.{CloseAnswer}
-use Rattle.model.specs.declared.answer.Ended.{Ended}
-use Rattle.model.specs.declared.answer.Passed.{Passed}
-use Rattle.model.specs.declared.answer.PassAnswer.{PassAnswer}
 use Rattle.model.specs.declared.session.Common.{Common}
 use Rattle.model.specs.declared.session.Session.{Session}
 use Rattle.model.specs.declared.command.Streams.{Streams}
@@ -34,24 +31,23 @@ told-as : {R S : Type 0} (answer : R → Answer) (streams : R → Streams) (stat
 told-as {R} answer streams state r q d x h l e =
     subst (λ (y : R). Gives (answer y) (streams y) d (state y) x) (sym h) (gives-told (answer q) (streams q) d (state q) x l e)
 
-module _ (s : Session) (d : List ℕ) where
-  pub passed-told : (r : Passed) (a : PassAnswer) (x : Step Session) → r ≡ record { answer = a; streams = streams_as []; session = s }
-      → x ≡ replied (pass_answer a) [] d [] s → Gives (pass_answer r.answer) r.streams d r.session x
-  passed-told r a x h e = told-as (λ (y : Passed). pass_answer y.answer) (λ y. y.streams) (λ y. y.session) r _ d x h refl e
-
-  pub ended-told : (r : Ended) (a : CloseAnswer) (x : Step Session) → r ≡ record { answer = a; streams = streams_as []; session = s }
-      → x ≡ replied (close_answer a) [] d [] s → Gives (close_answer r.answer) r.streams d r.session x
-  ended-told r a x h e = told-as (λ (y : Ended). close_answer y.answer) (λ y. y.streams) (λ y. y.session) r _ d x h refl e
-
-  pub arrived-told : (r : Arrived) (a : ArrivalAnswer) (x : Step Session) → r ≡ record { answer = a; streams = streams_as []; session = s }
-      → x ≡ replied (arrival_answer a) [] d [] s → Gives (arrival_answer r.answer) r.streams d r.session x
-  arrived-told r a x h e = told-as (λ (y : Arrived). arrival_answer y.answer) (λ y. y.streams) (λ y. y.session) r _ d x h refl e
+-- an answer of any call, which the code gives this name
+module _ {A : Type 0} (named : Result A Refusal → Answer) (s : Session) (d : List ℕ) where
+  pub answer-told : (r : Answered A) (a : Result A Refusal) (x : Step Session) → r ≡ record { answer = a; streams = streams_as []; session = s }
+      → x ≡ replied (named a) [] d [] s → Gives (named r.answer) r.streams d r.session x
+  answer-told r a x h e = told-as (λ (y : Answered A). named y.answer) (λ y. y.streams) (λ y. y.session) r _ d x h refl e
 
   -- with the samples beside it
-  pub arrival-told : (samples : List Float) (r : Arrived) (a : ArrivalAnswer) (x : Step State) → r ≡ record { answer = a; streams = streams_as []; session = s }
-      → x ≡ replied (arrival_answer a) [] d [] (joined s samples) → Gives (arrival_answer r.answer) r.streams d (joined r.session samples) x
-  arrival-told samples r a x h e =
-      told-as (λ (y : Arrived). arrival_answer y.answer) (λ y. y.streams) (λ y. joined y.session samples) r _ d x h refl e
+  pub answer-told_beside : (samples : List Float) (r : Answered A) (a : Result A Refusal) (x : Step State) → r ≡ record { answer = a; streams = streams_as []; session = s }
+      → x ≡ replied (named a) [] d [] (joined s samples) → Gives (named r.answer) r.streams d (joined r.session samples) x
+  answer-told_beside samples r a x h e =
+      told-as (λ (y : Answered A). named y.answer) (λ y. y.streams) (λ y. joined y.session samples) r _ d x h refl e
+
+  -- of a call that is lent no packets
+  pub answer-replied : {S : Type 0} (leaves : Session → S) (buffer : List Float) (r : Answered A) (a : Result A Refusal) (x : Step S)
+      → r ≡ record { answer = a; streams = streams_as []; session = s } → replied (named a) [] [] buffer (leaves s) ≡ x
+      → replied (named r.answer) [] [] buffer (leaves r.session) ≡ x
+  answer-replied leaves buffer r a x h e = ap (λ (y : Answered A). replied (named y.answer) [] [] buffer (leaves y.session)) h ∙ e
 
 -- a call that is not lent the samples keeps them
 pub gives-kept : (a : Answer) (l : Streams) (d : List ℕ) (s : Session) (samples : List Float) (x : Step Session) (y : Step State) → y ≡ keeping samples x

@@ -1,10 +1,11 @@
 -- Packets sent one after another: room, streams and octets, step by step. Assumes nothing.
+use Rattle.std.specs.Prelude.{⊤, Result}
+use Rattle.wire.specs.declared.packet.PacketError.{PacketError}
 use Rattle.std.proofs.Common.{◌≡◌, ℕ, suc, ◌+◌, ◌-◌, ◌%◌, ◌^◌, ◌<◌, ◌≤◌, Bool, true, false, List, [], ◌∷◌, ◌++◌, length, get_or, take, drop, set, replicate, sym, refl, ap, ◌∙◌, subst, append-nil, arith, length-append, le-ltb}
 use lib.Seq.{set_at, append_snoc}
 use Rattle.base.proofs.Picks.{pick-t, pick-f}
 use Rattle.base.specs.Pick.{pick}
 use Rattle.wire.specs.Packet.{high_packet, Sent}
-use Rattle.wire.specs.declared.packet.PacketAnswer.{PacketAnswer}
 use Rattle.octets.specs.Written.{written, Put}
 use Rattle.octets.proofs.Puts.{put-none, put_then, put-part}
 use Rattle.model.specs.Sending.{Sending, idle, then, packet_of, send}
@@ -126,17 +127,17 @@ offset-small TxSpecific = omega arith
 offset-small HighPriority = omega arith
 
 -- a packet that its writer left at the front of a buffer
-put_front : (n : ℕ) (out d e : List ℕ) (r : PacketAnswer) → length out ≡ n → n ≤ length d → Sent n out d r e → Put d 0 out n e
+put_front : (n : ℕ) (out d e : List ℕ) (r : Result ⊤ PacketError) → length out ≡ n → n ≤ length d → Sent n out d r e → Put d 0 out n e
 put_front n out d e r l h s = record { ends = omega (arith, l); holds = s.holds ∙ pick-f _ _ _ (le-ltb (length d) n h) }
 
 -- the packet of a stream, by its writer
-pub put_as : (k j : Stream) (run : Bool) (c : Common) (d e : List ℕ) (r : PacketAnswer) → k ≡ j → size_of k ≤ length d → Sent (size_of j) (packet_of j run c) d r e
+pub put_as : (k j : Stream) (run : Bool) (c : Common) (d e : List ℕ) (r : Result ⊤ PacketError) → k ≡ j → size_of k ≤ length d → Sent (size_of j) (packet_of j run c) d r e
     → Put d 0 (packet_of k run c) (size_of j) e
 put_as k j run c d e r h l s =
     subst (λ (x : Stream). Put d 0 (packet_of x run c) (size_of j) e) (sym h)
     (put_front (size_of j) (packet_of j run c) d e r (packet-size j run c) (subst (λ (x : Stream). size_of x ≤ length d) h l) s)
 
-pub at_level : (seq : ℕ) (run : Bool) (phase alex0 alex1 db level : ℕ) (d e : List ℕ) (r : PacketAnswer) → db ≡ level
+pub at_level : (seq : ℕ) (run : Bool) (phase alex0 alex1 db level : ℕ) (d e : List ℕ) (r : Result ⊤ PacketError) → db ≡ level
     → Sent 1444 (high_packet seq run phase alex0 alex1 db) d r e → Sent 1444 (high_packet seq run phase alex0 alex1 level) d r e
 at_level seq run phase alex0 alex1 db level d e r h s = subst (λ (x : ℕ). Sent 1444 (high_packet seq run phase alex0 alex1 x) d r e) h s
 

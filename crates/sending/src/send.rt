@@ -6,8 +6,9 @@ ghost use Rattle.model.specs.Command.{streams_as};
 ghost use Rattle.wire.specs.Command.{size_of};
 ghost use Rattle.sending.specs.Progress.{appended, started, Sends, HasRoom};
 
+use model::answer::{Answered, Refusal};
 use model::command::Streams;
-use model::session::{Attenuation, Common};
+use model::session::{Common, Session};
 use wire::command::Stream;
 use wire::packet::{
     GENERAL_LEN, HIGH_PRIORITY_LEN, RX_SPECIFIC_LEN, TX_SPECIFIC_LEN, general_packet,
@@ -32,6 +33,17 @@ pub fn no_streams() -> Streams
     }
 }
 
+// What a call answered that wrote no packet.
+pub fn without_packets<A>(answer: Result<A, Refusal>, session: Session) -> Answered<A>
+    ensures { result ≡ record { answer = answer; streams = streams_as []; session = session } }
+{
+    Answered {
+        answer,
+        streams: no_streams(),
+        session,
+    }
+}
+
 // Nothing is written yet.
 pub fn start(common: Common) -> Progress
     ensures { result ≡ started common }
@@ -46,17 +58,15 @@ pub fn start(common: Common) -> Progress
 
 // The level in dB that the packets carry: 0 with attenuation off.
 pub fn level(c: Common) -> u8
-    ensures { result ≡ Sending.level c.attenuator.attenuation }
+    ensures { result ≡ Sending.level c.attenuation }
 {
-    let attenuator = c.attenuator;
-    let attenuation = attenuator.attenuation;
-    match attenuation {
-        Attenuation::Off => 0,
-        Attenuation::On(controller) => controller.db,
+    match c.attenuation {
+        None => 0,
+        Some(controller) => controller.db,
     }
 }
 
-// The next packet of a stream, at the front of `out`; its length. `run` matters for high priority alone.
+// The next packet of a stream, at the front of `out`, which has room for it; its length. `run` matters for high priority alone.
 fn put_packet(c: Common, stream: Stream, run: bool, out: &mut [u8]) -> usize
     requires { size_of stream ≤ length out.old }
     ensures { Put out.old 0 (Sending.packet_of stream run c) result out.new }
@@ -65,20 +75,20 @@ fn put_packet(c: Common, stream: Stream, run: bool, out: &mut [u8]) -> usize
     let db = level(c);
     match stream {
         Stream::General => {
-            general_packet(c.seq[0], board, out);
+            let _ = general_packet(c.seq[0], board, out);
             GENERAL_LEN
         }
         Stream::RxSpecific => {
-            rx_specific_packet(c.seq[1], board, c.tuning.rate_khz, out);
+            let _ = rx_specific_packet(c.seq[1], board, c.tuning.rate_khz, out);
             RX_SPECIFIC_LEN
         }
         Stream::TxSpecific => {
-            tx_specific_packet(c.seq[2], out);
+            let _ = tx_specific_packet(c.seq[2], out);
             TX_SPECIFIC_LEN
         }
         Stream::HighPriority => {
             let alex = c.tuning.alex;
-            high_priority_packet(
+            let _ = high_priority_packet(
                 c.seq[3],
                 run,
                 c.tuning.phase_word,

@@ -1,20 +1,19 @@
 -- What a number is told, by the tests that the code makes in turn, and the tracker after each event. Assumes nothing.
-use Rattle.std.proofs.Common.{◌≡◌, ℕ, ◌+◌, ◌%◌, ◌^◌, ◌<◌, ◌≤◌, Bool, true, false, eqb, ◌≢◌, sym, refl, ap, ◌∙◌, arith, le-ltb, lt-ltb, eq-eqb, ne_eqb, le-leb, leb-false}
+use Rattle.std.specs.Prelude.{Option, Some, None}
+use Rattle.std.proofs.Common.{◌≡◌, ℕ, ◌+◌, ◌-◌, ◌%◌, ◌^◌, ◌<◌, ◌≤◌, Bool, true, false, eqb, ◌≢◌, sym, refl, ap, ◌∙◌, arith, le-ltb, lt-ltb, eq-eqb, ne_eqb, le-leb, leb-false}
 use borrow.Author.Tests.{lt-leb}
 use Rattle.base.specs.Pick.{pick}
 use Rattle.base.proofs.Picks.{pick-t, pick-f}
 use Rattle.sequence.specs.Tracker.{less, ahead, behind, zero_restarts, eighth, meant, meaning, rebaselined, moved, observed, Moved}
-use Rattle.sequence.specs.declared.Observed.{Observed}
+use Rattle.sequence.specs.Tracker.{Observed}
 use Rattle.sequence.specs.declared.SeqEvent.{SeqEvent}
 use Rattle.sequence.specs.declared.SeqEvent.TheVariants.{InOrder, Gap, Stale, Restart}
-use Rattle.sequence.specs.declared.Expected.{Expected}
-use Rattle.sequence.specs.declared.Expected.TheVariants.{Nothing, Next}
 use Rattle.sequence.specs.declared.SeqTracker.{SeqTracker}
 
 -- a wrapping subtract's difference
-pub less-is : (d x seq : ℕ) → d < 2 ^ 32 → x < 2 ^ 32 → (d + x) % 2 ^ 32 ≡ seq → less seq x ≡ d
+pub less-is : (x seq : ℕ) → x < 2 ^ 32 → (seq + (2 ^ 32 - x)) % 2 ^ 32 ≡ less seq x
 unfolding less
-less-is d x seq h k e = omega arith
+less-is x seq k = omega arith
 
 -- ---- the tests in turn
 
@@ -62,9 +61,9 @@ stale-run-small : (d run seq : ℕ) → meant d run seq ≡ Stale → run < 7
 unfolding meant
 stale-run-small d run seq h = omega (arith, leb-false 8 (run + 1) (by_tests (eqb d 0) (zero_restarts seq) (ahead d) (behind d) (eighth run) d h))
 
-stale-small : (x : Expected) (run seq : ℕ) → meaning x run seq ≡ Stale → run < 7
-stale-small Nothing run seq h = let z : ◌≡◌ {A = ℕ} 0 1 = cc in absurd (omega arith)
-stale-small (Next x) run seq h = stale-run-small (less seq x) run seq h
+stale-small : (x : Option ℕ) (run seq : ℕ) → meaning x run seq ≡ Stale → run < 7
+stale-small None run seq h = let z : ◌≡◌ {A = ℕ} 0 1 = cc in absurd (omega arith)
+stale-small (Some x) run seq h = stale-run-small (less seq x) run seq h
 
 -- ---- the tracker after each event
 
@@ -79,24 +78,23 @@ module _ (t : SeqTracker) (seq : ℕ) where
   accepted Restart n = refl
   accepted Stale n = absurd (n refl)
 
-  pub seen_first : (r : Observed) → t.expected ≡ Nothing → r ≡ rebaselined seq InOrder → r ≡ observed t seq
-  seen_first r h b = b ∙ seen InOrder (sym (ap (λ (x : Expected). meaning x t.stale_run seq) h))
+  pub seen_first : (r : Observed) → t.expected ≡ None → r ≡ rebaselined seq InOrder → r ≡ observed t seq
+  seen_first r h b = b ∙ seen InOrder (sym (ap (λ (x : Option ℕ). meaning x t.stale_run seq) h))
 
-  module _ (x : ℕ) (e : SeqEvent) (h : t.expected ≡ Next x) (k : e ≡ meaning (Next x) t.stale_run seq) where
+  module _ (x : ℕ) (e : SeqEvent) (h : t.expected ≡ Some x) (k : e ≡ meaning (Some x) t.stale_run seq) where
     next : e ≡ meaning t.expected t.stale_run seq
-    next = k ∙ sym (ap (λ (x : Expected). meaning x t.stale_run seq) h)
+    next = k ∙ sym (ap (λ (x : Option ℕ). meaning x t.stale_run seq) h)
 
     pub seen-accepted : (r : Observed) → (e ≡ Stale → ⊥) → r ≡ rebaselined seq e → r ≡ observed t seq
     seen-accepted r n b = b ∙ accepted e n ∙ seen e next
 
-    pub seen-stale : e ≡ Stale → ◌≡◌ {A = Observed} (record { event = e; tracker = record { expected = Next x; stale_run = t.stale_run + 1 } }) (observed t seq)
+    pub seen-stale : e ≡ Stale → ◌≡◌ {A = Observed} (record { event = e; tracker = record { expected = t.expected; stale_run = t.stale_run + 1 } }) (observed t seq)
     seen-stale s =
-        ap (λ (v : SeqEvent). record { event = v; tracker = record { expected = Next x; stale_run = t.stale_run + 1 } }) s
-        ∙ ap (λ (y : Expected). record { event = Stale; tracker = record { expected = y; stale_run = t.stale_run + 1 } }) (sym h)
+        ap (λ (v : SeqEvent). record { event = v; tracker = record { expected = t.expected; stale_run = t.stale_run + 1 } }) s
         ∙ seen Stale (sym s ∙ next)
 
     pub run_small : e ≡ Stale → t.stale_run < 7
-    run_small s = stale-small (Next x) t.stale_run seq (sym k ∙ s)
+    run_small s = stale-small (Some x) t.stale_run seq (sym k ∙ s)
 
 -- ---- after any number at all the stale run is at most seven
 

@@ -1,12 +1,9 @@
 -- What a datagram's number means relative to the stream so far: 01's `observe`. Definitions only.
-use Rattle.std.specs.Prelude.{◌≡◌, ℕ, ◌+◌, ◌-◌, ◌%◌, ◌^◌, Bool, ◌==◌, nat_le, nat_lt}
+use Rattle.std.specs.Prelude.{◌≡◌, ℕ, ◌+◌, ◌-◌, ◌%◌, ◌^◌, Bool, ◌==◌, nat_le, nat_lt, Option, Some, None}
 use Rattle.base.specs.Pick.{pick}
-use Rattle.sequence.specs.declared.Expected.{Expected}
-use Rattle.sequence.specs.declared.Expected.TheVariants.{Nothing, Next}
 use Rattle.sequence.specs.declared.SeqEvent.{SeqEvent}
 use Rattle.sequence.specs.declared.SeqEvent.TheVariants.{InOrder, Gap, Stale, Restart}
 use Rattle.sequence.specs.declared.SeqTracker.{SeqTracker}
-use Rattle.sequence.specs.declared.Observed.{Observed}
 
 -- d: how far a number lies past the expected one, modulo 2^32
 unfoldable pub less : ℕ → ℕ → ℕ
@@ -42,13 +39,18 @@ meant d run seq =
     Restart)))
 
 -- while none is expected every number is InOrder
-abbrev pub meaning : Expected → ℕ → ℕ → SeqEvent
-meaning Nothing run seq = InOrder
-meaning (Next expected) run seq = meant (less seq expected) run seq
+abbrev pub meaning : Option ℕ → ℕ → ℕ → SeqEvent
+meaning None run seq = InOrder
+meaning (Some expected) run seq = meant (less seq expected) run seq
+
+-- what a number is told as, and the tracker after it
+pub record Observed : Type 0 where
+  pub event : SeqEvent
+  pub tracker : SeqTracker
 
 -- the tracker as an accepted number leaves it
 abbrev pub past : ℕ → SeqTracker
-past seq = record { expected = Next (after seq); stale_run = 0 }
+past seq = record { expected = Some (after seq); stale_run = 0 }
 
 abbrev pub rebaselined : ℕ → SeqEvent → Observed
 rebaselined seq event = record { event = event; tracker = past seq }
@@ -68,7 +70,7 @@ observed t seq = moved t seq (meaning t.expected t.stale_run seq)
 
 -- no number is expected before the first
 abbrev pub new : SeqTracker
-new = record { expected = Nothing; stale_run = 0 }
+new = record { expected = None; stale_run = 0 }
 
 -- what is claimed of the tracker after a number: Stale alone keeps the expected number, and its run is one longer; any other event
 -- expects the number that follows, and its run is empty

@@ -2,10 +2,13 @@
 #![tactic(auto)]
 
 ghost use Rattle.std.specs.Prelude.{◌≡◌};
-ghost use Rattle.sequence.specs.Tracker.{new, zero_restarts, meaning, rebaselined, observed};
+ghost use Rattle.sequence.specs.Tracker.{new, zero_restarts, meaning, past, observed};
 
 // A stale (late or repeated) datagram is at most this many behind the expected one.
 const MAX_STALE_BEHIND: u32 = 64;
+
+// So many behind, modulo 2^32.
+const STALE_FROM: u32 = u32::MAX - MAX_STALE_BEHIND + 1;
 
 // So many stale datagrams in a row are a restart.
 const STALE_RUN_RESTART: u32 = 8;
@@ -19,23 +22,10 @@ pub enum SeqEvent {
     Restart,
 }
 
-// The number expected next, or that none has come yet.
-#[derive(Clone, Copy)]
-pub enum Expected {
-    Nothing,
-    Next(u32),
-}
-
 #[derive(Clone, Copy)]
 pub struct SeqTracker {
-    pub expected: Expected,
+    pub expected: Option<u32>,
     pub stale_run: u32,
-}
-
-#[derive(Clone, Copy)]
-pub struct Observed {
-    pub event: SeqEvent,
-    pub tracker: SeqTracker,
 }
 
 // Number 0, where it is not the expected one, begins a new stream.
@@ -47,9 +37,9 @@ fn zero_restarts(seq: u32) -> bool
 
 // What seq is where `expected` is expected and run stale ones have come since the last accepted one.
 fn judge(expected: u32, run: u32, seq: u32) -> SeqEvent
-    ensures { result ≡ meaning (Expected.Next expected) run seq }
+    ensures { result ≡ meaning (Some expected) run seq }
 {
-    let d = std::num::wrapping_sub_u32(seq, expected);
+    let d = seq.wrapping_sub(expected);
     if d == 0 {
         return SeqEvent::InOrder;
     }
@@ -59,7 +49,7 @@ fn judge(expected: u32, run: u32, seq: u32) -> SeqEvent
     if d < 0x8000_0000 {
         return SeqEvent::Gap(d);
     }
-    if d < std::num::wrapping_sub_u32(0, MAX_STALE_BEHIND) {
+    if d < STALE_FROM {
         return SeqEvent::Restart;
     }
     if run >= STALE_RUN_RESTART - 1 {
@@ -68,49 +58,38 @@ fn judge(expected: u32, run: u32, seq: u32) -> SeqEvent
     SeqEvent::Stale
 }
 
-// seq is accepted as the latest datagram.
-fn rebaseline(seq: u32, event: SeqEvent) -> Observed
-    ensures { result ≡ rebaselined seq event }
-{
-    let next = std::num::wrapping_add_u32(seq, 1);
-    Observed {
-        event,
-        tracker: SeqTracker {
-            expected: Expected::Next(next),
-            stale_run: 0,
-        },
-    }
-}
-
 impl SeqTracker {
     pub fn new() -> Self
         ensures { result ≡ new }
     {
         Self {
-            expected: Expected::Nothing,
+            expected: None,
             stale_run: 0,
         }
     }
 
-    // Tells what seq is and moves the tracker on; a stale one leaves the expected number where it was.
-    pub fn observe(self, seq: u32) -> Observed
-        ensures { result ≡ observed self seq }
+    // seq is accepted as the latest datagram.
+    fn rebaseline(&mut self, seq: u32)
+        ensures { self.new ≡ past seq }
     {
-        let expected = self.expected;
-        let Expected::Next(next) = expected else {
-            return rebaseline(seq, SeqEvent::InOrder);
+        self.expected = Some(seq.wrapping_add(1));
+        self.stale_run = 0;
+    }
+
+    // Tells what seq is and moves the tracker on; a stale one leaves the expected number where it was.
+    pub fn observe(&mut self, seq: u32) -> SeqEvent
+        ensures { record { event = result; tracker = self.new } ≡ observed self.old seq }
+    {
+        let Some(next) = self.expected else {
+            self.rebaseline(seq);
+            return SeqEvent::InOrder;
         };
         let event = judge(next, self.stale_run, seq);
         let SeqEvent::Stale = event else {
-            return rebaseline(seq, event);
+            self.rebaseline(seq);
+            return event;
         };
-        let stale_run = self.stale_run + 1;
-        Observed {
-            event,
-            tracker: SeqTracker {
-                expected: Expected::Next(next),
-                stale_run,
-            },
-        }
+        self.stale_run += 1;
+        event
     }
 }

@@ -38,7 +38,7 @@ pub fn center_freq_hz(s: Session) -> f64
 
 // The attenuation of the moment in dB: 0 with attenuation off.
 pub fn attenuation_db(s: Session) -> u8
-    ensures { result ≡ Sending.level s.common.attenuator.attenuation }
+    ensures { result ≡ Sending.level s.common.attenuation }
 {
     let common = s.common;
     level(common)

@@ -5,57 +5,43 @@ ghost use Rattle.model.specs.State.{replied};
 ghost use Rattle.model.specs.Take as Take;
 ghost use Rattle.model.specs.Gives.{joined};
 
-use model::answer::{Handed, TakeAnswer};
+use model::answer::{Answered, Refusal};
 use model::session::Session;
-use receiving::queue::{copy_out, handed, least, left, waits};
+use receiving::queue::{copy_out, handed, left, waits};
 use receiving::read::not_reading;
+use sending::send::without_packets;
 use stream::F32_PER_DATAGRAM;
 
 // Hands out waiting samples, at `reading`: `samples` are the 476 f32 lent beside the session, `buffer` gets I, Q pairs from its front,
-// as many as it has room for. Took: so many pairs; the read is closed. What is left waits for the next read's Take. NotNow (10),
-// ReadingFell (11), NoRoom (16: fewer than 2 f32) and NothingWaits (17) refuse, and change nothing.
+// as many as it has room for. Ok: so many pairs; the read is closed. What is left waits for the next read's Take. NotNow (10),
+// ReadingFell (11), NoSampleRoom (16: fewer than 2 f32) and NothingWaits (17) refuse, and change nothing.
 pub fn take(
     s: Session,
     samples: &[f32; F32_PER_DATAGRAM],
     reading: u64,
     buffer: &mut [f32],
-) -> Handed
+) -> Answered<usize>
     ensures { replied (take_answer result.answer) [] [] buffer.new (joined result.session samples.now) ≡
         Take.take_out (joined s samples.now) reading buffer.old }
 {
     let receiver = s.receiver;
     if not_reading(s.common.closed, receiver) {
-        return Handed {
-            answer: TakeAnswer::NotNow,
-            session: s,
-        };
+        return without_packets(Err(Refusal::NotNow), s);
     }
     if reading < s.common.last_reading {
-        return Handed {
-            answer: TakeAnswer::ReadingFell,
-            session: s,
-        };
+        return without_packets(Err(Refusal::ReadingFell), s);
     }
     if buffer.len() < 2 {
-        return Handed {
-            answer: TakeAnswer::NoRoom,
-            session: s,
-        };
+        return without_packets(Err(Refusal::NoSampleRoom), s);
     }
     if !waits(receiver) {
-        return Handed {
-            answer: TakeAnswer::NothingWaits,
-            session: s,
-        };
+        return without_packets(Err(Refusal::NothingWaits), s);
     }
-    let n = least(buffer.len() / 2, left(receiver));
+    let n = (buffer.len() / 2).min(left(receiver));
     copy_out(samples, 2 * receiver.queue_pos, 2 * n, buffer);
     let after = handed(receiver, reading, n);
     let mut next = s;
     next.common.last_reading = reading;
     next.receiver = after;
-    Handed {
-        answer: TakeAnswer::Took(n),
-        session: next,
-    }
+    without_packets(Ok(n), next)
 }

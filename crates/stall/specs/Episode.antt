@@ -1,7 +1,6 @@
 -- The soft stall of a stream, 01, Pass. Definitions only. A difference of readings is of natural numbers, and so never below 0.
 use Rattle.std.specs.Prelude.{ℕ, ◌-◌, Bool, true, false, ◌&&◌, leb, ltb}
 use Rattle.stall.specs.declared.StallEpisode.{StallEpisode}
-use Rattle.stall.specs.declared.Taken.{Taken}
 
 -- nothing delivered and nothing to report
 abbrev pub unarmed : StallEpisode
@@ -18,6 +17,11 @@ is_due e last now soft hard = e.delivering && ltb soft hard && leb soft (now - l
 -- the stall flag goes up, and delivering ends
 abbrev pub reported : StallEpisode → StallEpisode
 reported e = record { delivering = false; pending = true }
+
+-- what a drain of the stall flag returns, and the episode after it
+pub record Taken : Type 0 where
+  pub stalled : Bool
+  pub episode : StallEpisode
 
 -- a drain returns and empties the stall flag
 abbrev pub taken : StallEpisode → Taken

@@ -15,12 +15,6 @@ pub struct StallEpisode {
     pub pending: bool,
 }
 
-#[derive(Clone, Copy)]
-pub struct Taken {
-    pub stalled: bool,
-    pub episode: StallEpisode,
-}
-
 impl StallEpisode {
     pub fn new() -> Self
         ensures { result ≡ unarmed }
@@ -31,13 +25,10 @@ impl StallEpisode {
         }
     }
 
-    pub fn note_delivery(self) -> Self
-        ensures { result ≡ delivered self }
+    pub fn note_delivery(&mut self)
+        ensures { self.new ≡ delivered self.old }
     {
-        Self {
-            delivering: true,
-            pending: self.pending,
-        }
+        self.delivering = true;
     }
 
     // Whether the report is due now, the last sample being of the reading `last`: `soft` nanoseconds after it. Where the hard
@@ -55,25 +46,17 @@ impl StallEpisode {
     }
 
     // Makes the report, and none more before the next delivery.
-    pub fn report(self) -> Self
-        ensures { result ≡ reported self }
+    pub fn report(&mut self)
+        ensures { self.new ≡ reported self.old }
     {
-        Self {
-            delivering: false,
-            pending: true,
-        }
+        self.delivering = false;
+        self.pending = true;
     }
 
-    // The report, handed out once.
-    pub fn take(self) -> Taken
-        ensures { result ≡ taken self }
+    // Whether a report was made, which is told once.
+    pub fn take(&mut self) -> bool
+        ensures { record { stalled = result; episode = self.new } ≡ taken self.old }
     {
-        Taken {
-            stalled: self.pending,
-            episode: Self {
-                delivering: self.delivering,
-                pending: false,
-            },
-        }
+        std::mem::replace(&mut self.pending, false)
     }
 }

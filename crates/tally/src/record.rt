@@ -1,4 +1,5 @@
-// What is kept of an arrival of valid I/Q, as its answer told it.
+// What is kept of an arrival of valid I/Q, as its answer told it. `Event` is not sequence's own, which has a gap's datagrams too: they
+// are not kept.
 
 #[derive(Clone, Copy)]
 pub enum Event {

@@ -70,11 +70,8 @@ fn sums(table: &[u64; TABLE], a: Account) -> Sums
         missing: 0,
         restart: 0,
     };
-    let n = a.stretches;
-    let mut i = 0;
-    while i < n {
+    for i in 0..a.stretches {
         t = plus(t, stretch(table, a, i));
-        i += 1;
     }
     t
 }

@@ -1,16 +1,18 @@
 // A call's answer as a line of text, from its numbers (crate answers) and the buffers that it was lent.
-ghost use Rattle.std.specs.Prelude.{◌≤◌, ◌<◌};
+ghost use Rattle.std.specs.Prelude.{◌≤◌, length};
 
 use super::digest;
 use answers::{CLOSED, CODE, EMPTY, GAP, HOLDS, SENT, STATUS, STREAMS, TOOK, VALUE};
-use console::output::{Output, named, put};
-use console::pattern::{filled, nth_filled};
+use console::output::Output;
 use encoding::words::TAKE_MISSING;
 
 // The offsets of the streams written stand behind their number.
 const OFFSETS: usize = STREAMS + 1;
 
-// The text of each code of answers, in their order from REFUSED to GAP; # is the value.
+const MOST_STREAMS: usize = 5;
+
+// The text of each code of answers, in their order from REFUSED to GAP; # is the value. A code is a number here since answers are lent
+// as numbers (`answers::put`).
 const ANSWERS: [u8; 166] = *b"refused #\n\
     begun\n\
     ready\n\
@@ -50,94 +52,74 @@ fn size(offset: u64) -> usize
     }
 }
 
-// That of the k-th stream written; 0 past the last.
-fn size_of(answers: &[u64; 8], k: usize) -> usize
-    requires { k < 5 }
-    ensures { result ≤ 1444 }
+// The offsets of the streams written.
+fn streams(answers: &[u64; 8]) -> &[u64]
+    ensures { length result.now ≤ 5 }
 {
-    if k as u64 >= answers[STREAMS] {
-        return 0;
-    }
-    size(answers[OFFSETS + k])
+    let n = answers[STREAMS].min(MOST_STREAMS as u64) as usize;
+    &answers[OFFSETS..OFFSETS + n]
 }
 
-// How many octets of packets were written.
-fn written(answers: &[u64; 8]) -> usize {
-    let two = size_of(answers, 0) + size_of(answers, 1);
-    let four = two + size_of(answers, 2) + size_of(answers, 3);
-    four + size_of(answers, 4)
+// How many octets their packets have.
+fn octets_of(streams: &[u64]) -> usize
+    requires { length streams.now ≤ 5 }
+{
+    streams.iter().map(|offset| size(*offset)).sum()
 }
 
 // The streams in order, and the digest of their packets; or that there are none.
-fn sent(out: &mut Output, at: usize, answers: &[u64; 8], packets: &[u8; 8192]) -> usize {
-    let all = &answers[..];
-    let end = nth_filled(out, at, &SENT_TO, b'\n', answers[STREAMS], &all[OFFSETS..]);
-    if answers[STREAMS] == 0 {
-        return end;
+fn sent(out: &mut Output, answers: &[u64; 8], packets: &[u8]) {
+    out.nth_filled(&SENT_TO, b'\n', answers[STREAMS], &answers[OFFSETS..]);
+    if answers[STREAMS] > 0 {
+        digest::tell(out, digest::octets(packets, octets_of(streams(answers))));
     }
-    digest::tell(out, end, digest::octets(packets, written(answers)))
 }
 
-fn status(out: &mut Output, at: usize, answers: &[u64; 8], packets: &[u8; 8192]) -> usize {
-    let end = put(out, at, b"status");
-    if answers[STREAMS] == 0 {
-        return end;
+fn status(out: &mut Output, answers: &[u64; 8], packets: &[u8]) {
+    out.put(b"status");
+    if answers[STREAMS] > 0 {
+        out.put(b" ");
+        sent(out, answers, packets);
     }
-    let next = put(out, end, b" ");
-    sent(out, next, answers, packets)
 }
 
-fn took(out: &mut Output, at: usize, pairs: u64, places: &[f32; 1024]) -> usize {
-    let end = named(out, at, b"took ", pairs);
-    digest::tell(out, end, digest::samples(places, pairs as usize))
+fn took(out: &mut Output, pairs: u64, places: &[f32]) {
+    out.named(b"took ", pairs);
+    digest::tell(out, digest::samples(places, pairs as usize))
 }
 
 // An answer that is its text alone.
-fn plain(out: &mut Output, at: usize, code: u64, value: u64) -> usize {
+fn plain(out: &mut Output, code: u64, value: u64) {
     if code > GAP {
-        return filled(out, at, b"gap #", &[value]);
+        return out.filled(b"gap #", &[value]);
     }
-    nth_filled(out, at, &ANSWERS, b'\n', code, &[value])
+    out.nth_filled(&ANSWERS, b'\n', code, &[value])
 }
 
 // What a slot held, after the drain's name.
-fn slot(out: &mut Output, at: usize, kind: u64, code: u64, value: u64) -> usize {
-    if kind == TAKE_MISSING {
-        let end = put(out, at, b"missing ");
-        return plain(out, end, code, value);
-    }
-    let end = put(out, at, b"discontinuity ");
-    plain(out, end, code, value)
+fn slot(out: &mut Output, kind: u64, code: u64, value: u64) {
+    out.put(if kind == TAKE_MISSING {
+        b"missing "
+    } else {
+        b"discontinuity "
+    });
+    plain(out, code, value)
 }
 
-fn answer(
-    out: &mut Output,
-    at: usize,
-    kind: u64,
-    answers: &[u64; 8],
-    packets: &[u8; 8192],
-    places: &[f32; 1024],
-) -> usize {
+fn answer(out: &mut Output, kind: u64, answers: &[u64; 8], packets: &[u8], places: &[f32]) {
     let value = answers[VALUE];
     let code = answers[CODE];
     match code {
-        SENT | CLOSED => sent(out, at, answers, packets),
-        STATUS => status(out, at, answers, packets),
-        TOOK => took(out, at, value, places),
-        EMPTY | HOLDS => slot(out, at, kind, code, value),
-        _ => plain(out, at, code, value),
+        SENT | CLOSED => sent(out, answers, packets),
+        STATUS => status(out, answers, packets),
+        TOOK => took(out, value, places),
+        EMPTY | HOLDS => slot(out, kind, code, value),
+        _ => plain(out, code, value),
     }
 }
 
-// The answer of a call of this kind (encoding::words).
-pub fn tell(
-    out: &mut Output,
-    at: usize,
-    kind: u64,
-    answers: &[u64; 8],
-    packets: &[u8; 8192],
-    places: &[f32; 1024],
-) -> usize {
-    let end = answer(out, at, kind, answers, packets, places);
-    put(out, end, b"\n")
+// The answer of a call of this kind (encoding::words), whose packets and samples are the first of these.
+pub fn tell(out: &mut Output, kind: u64, answers: &[u64; 8], packets: &[u8], places: &[f32]) {
+    answer(out, kind, answers, packets, places);
+    out.put(b"\n")
 }

@@ -1,9 +1,12 @@
 // Adler-32 (RFC 1950). Of at most 8192 octets neither sum passes a u64, so that both are reduced once, at the end.
-ghost use Rattle.std.specs.Prelude.{◌+◌, ◌*◌, ◌≤◌, length};
+ghost use Rattle.std.specs.Prelude.{◌+◌, ◌<◌, ◌≤◌, length};
 
-use console::output::{Output, named_hex};
+use console::output::Output;
 
 const MOST: usize = 8192;
+
+// Of so many f32, four octets each, neither.
+const MOST_PLACES: usize = 1024;
 
 #[derive(Clone, Copy)]
 struct Sums {
@@ -11,35 +14,35 @@ struct Sums {
     b: u64,
 }
 
-fn sum_of(s: Sums) -> u32 {
-    (s.b % 65521 * 65536 + s.a % 65521) as u32
-}
+impl Sums {
+    // An octet more.
+    fn octet(&mut self, x: u8)
+        requires { (self.old.a < 4000000) × (self.old.b < 70000000000) }
+        ensures { (self.new.a ≤ self.old.a + 255) × (self.new.b ≤ self.old.b + self.new.a) }
+    {
+        self.a += u64::from(x);
+        self.b += self.a;
+    }
 
-fn wide(x: u8) -> u64
-    ensures { result ≤ 255 }
-{
-    x as u64
+    fn value(self) -> u32 {
+        (self.b % 65521 * 65536 + self.a % 65521) as u32
+    }
 }
 
 fn of_octets(p: &[u8]) -> u32
     requires { length p.now ≤ 8192 }
 {
-    let mut a = 1u64;
-    let mut b = 0u64;
-    let mut i = 0;
-    while i < p.len() {
-        a += wide(p[i]);
-        b += a;
-        i += 1;
+    let mut s = Sums { a: 1, b: 0 };
+    for x in p {
+        s.octet(*x);
     }
-    sum_of(Sums { a, b })
+    s.value()
 }
 
-// Of the first n octets.
-pub(crate) fn octets(p: &[u8; MOST], n: usize) -> u32 {
-    let all = &p[..];
-    if n <= MOST {
-        return of_octets(&all[0..n]);
+// Of the first n octets, which are there.
+pub(crate) fn octets(p: &[u8], n: usize) -> u32 {
+    if n <= p.len().min(MOST) {
+        return of_octets(&p[..n]);
     }
     0
 }
@@ -52,42 +55,26 @@ fn bits_of(x: f32) -> u32 {
     f32::to_bits(x)
 }
 
-// Four octets more, the highest first.
-fn number(s: Sums, x: u64) -> Sums
-    requires { (s.a ≤ 4000000) × (s.b ≤ 70000000000) }
-    ensures { (result.a ≤ s.a + 1020) × (result.b ≤ s.b + 4 * s.a + 2550) }
-{
-    let one = s.a + x / 16777216 % 256;
-    let two = one + x / 65536 % 256;
-    let three = two + x / 256 % 256;
-    let four = three + x % 256;
-    Sums {
-        a: four,
-        b: s.b + one + two + three + four,
-    }
-}
-
 fn of_samples(p: &[f32]) -> u32
     requires { length p.now ≤ 1024 }
 {
     let mut s = Sums { a: 1, b: 0 };
-    let mut i = 0;
-    while i < p.len() {
-        s = number(s, bits_of(p[i]) as u64);
-        i += 1;
+    for x in p {
+        for octet in bits_of(*x).to_be_bytes() {
+            s.octet(octet);
+        }
     }
-    sum_of(s)
+    s.value()
 }
 
-// Of the first n pairs, each f32 as four octets.
-pub(crate) fn samples(p: &[f32; 1024], n: usize) -> u32 {
-    let all = &p[..];
-    if n <= 512 {
-        return of_samples(&all[0..2 * n]);
+// Of the first n pairs, which are there, each f32 as four octets, the highest first.
+pub(crate) fn samples(p: &[f32], n: usize) -> u32 {
+    if n <= p.len().min(MOST_PLACES) / 2 {
+        return of_samples(&p[..2 * n]);
     }
     0
 }
 
-pub(crate) fn tell(out: &mut Output, at: usize, d: u32) -> usize {
-    named_hex(out, at, b" digest ", d as u64, 8)
+pub(crate) fn tell(out: &mut Output, d: u32) {
+    out.named_hex(b" digest ", u64::from(d), 8)
 }

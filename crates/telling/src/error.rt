@@ -1,106 +1,69 @@
 // A line that can't be read, or a list: the line's number, what was expected, and what stands there.
-use console::output::{Output, named_hex, number, put};
-use console::pattern::{filled, nth_filled};
+use console::output::Output;
 use lines::key::KEYS;
 use lines::{Expected, LONGEST, first_word, found};
 use text::Word;
 
-// What was expected, a line for each, as CALLS.md has it.
-const EXPECTED: [u8; 189] = *b"a call\n\
-    open\n\
-    a setting\n\
-    a value of \n\
-    a reading\n\
-    a number of a datagram\n\
-    an octet\n\
-    an address and a port\n\
-    octets in hexadecimal\n\
-    a number of places\n\
-    the end of the line\n\
-    a shorter line\n\
-    fewer stretches";
-
-// Its line.
-fn place(e: Expected) -> u64 {
+// As CALLS.md has it.
+fn put_expected(out: &mut Output, e: Expected) {
     match e {
-        Expected::Call => 0,
-        Expected::Open => 1,
-        Expected::Setting => 2,
-        Expected::ValueOf(_) => 3,
-        Expected::Reading => 4,
-        Expected::DatagramNumber => 5,
-        Expected::Octet => 6,
-        Expected::Sender => 7,
-        Expected::Octets => 8,
-        Expected::Places => 9,
-        Expected::End => 10,
-        Expected::ShorterLine => 11,
-        Expected::FewerStretches => 12,
+        Expected::Call => out.put(b"a call"),
+        Expected::Open => out.put(b"open"),
+        Expected::Setting => out.put(b"a setting"),
+        Expected::ValueOf(key) => {
+            out.put(b"a value of ");
+            out.nth_filled(&KEYS, b' ', key as u64, &[])
+        }
+        Expected::Reading => out.put(b"a reading"),
+        Expected::DatagramNumber => out.put(b"a number of a datagram"),
+        Expected::Octet => out.put(b"an octet"),
+        Expected::Sender => out.put(b"an address and a port"),
+        Expected::Octets => out.put(b"octets in hexadecimal"),
+        Expected::Places => out.put(b"a number of places"),
+        Expected::End => out.put(b"the end of the line"),
+        Expected::ShorterLine => out.put(b"a shorter line"),
+        Expected::FewerStretches => out.put(b"fewer stretches"),
     }
-}
-
-fn what(out: &mut Output, at: usize, e: Expected) -> usize {
-    let end = nth_filled(out, at, &EXPECTED, b'\n', place(e), &[0]);
-    if let Expected::ValueOf(key) = e {
-        return nth_filled(out, end, &KEYS, b' ', key as u64, &[0]);
-    }
-    end
 }
 
 // What of a word is shown.
 const SHOWN: usize = 40;
 
 // An octet that doesn't print, or is the backslash, by its two hexadecimal digits.
-fn octet(out: &mut Output, at: usize, x: u8) -> usize {
+fn octet(out: &mut Output, x: u8) {
     match x {
-        92 => put(out, at, b"\\x5c"),
-        33..=126 => put(out, at, &[x]),
-        _ => named_hex(out, at, b"\\x", x as u64, 2),
+        b'\\' => out.put(b"\\x5c"),
+        b'!'..=b'~' => out.put(&[x]),
+        _ => out.named_hex(b"\\x", u64::from(x), 2),
     }
 }
 
-fn octets(out: &mut Output, at: usize, word: &[u8]) -> usize {
-    let mut end = at;
-    let mut i = 0;
-    while i < word.len() {
-        end = octet(out, end, word[i]);
-        i += 1;
+fn octets(out: &mut Output, word: &[u8]) {
+    for x in word {
+        octet(out, *x);
     }
-    end
 }
 
-fn quoted(out: &mut Output, at: usize, word: &[u8]) -> usize {
-    let one = put(out, at, b"'");
-    if word.len() <= SHOWN {
-        let two = octets(out, one, word);
-        return put(out, two, b"'");
-    }
-    let two = octets(out, one, &word[0..SHOWN]);
-    put(out, two, b"'..")
+fn quoted(out: &mut Output, word: &[u8]) {
+    let shown = word.len().min(SHOWN);
+    out.put(b"'");
+    octets(out, &word[..shown]);
+    out.put(if word.len() > SHOWN { b"'.." } else { b"'" })
 }
 
 // Editors put it before a text's first word, and show nothing there.
 fn is_byte_order_mark(word: &[u8]) -> bool {
-    if word.len() < 3 {
-        return false;
-    }
-    if word[0] != 0xef {
-        return false;
-    }
-    if word[1] != 0xbb {
-        return false;
-    }
-    word[2] == 0xbf
+    word.starts_with(b"\xef\xbb\xbf")
 }
 
-fn stands(out: &mut Output, at: usize, word: &[u8]) -> usize {
-    if word.len() == 0 {
-        return put(out, at, b"the end of the line");
+fn stands(out: &mut Output, word: &[u8]) {
+    if word.is_empty() {
+        return out.put(b"the end of the line");
     }
     if is_byte_order_mark(word) {
-        return put(out, at, b"a byte order mark");
+        return out.put(b"a byte order mark");
     }
-    quoted(out, at, word)
+    quoted(out, word)
 }
 
 // Of a call where there is no session, its name.
@@ -111,46 +74,31 @@ fn word_of(line: &[u8], e: Expected) -> Word {
     }
 }
 
-fn put_word(out: &mut Output, at: usize, line: &[u8], e: Expected) -> usize {
+fn put_word(out: &mut Output, line: &[u8], e: Expected) {
     let word = word_of(line, e);
-    let start = word.start;
-    let end = word.end;
-    if start <= end && end <= line.len() {
-        return stands(out, at, &line[start..end]);
+    if let Some(word) = line.get(word.start..word.end) {
+        stands(out, word);
     }
-    at
 }
 
-fn put_found(out: &mut Output, at: usize, line: &[u8], e: Expected, stretches: usize) -> usize {
+fn put_found(out: &mut Output, line: &[u8], e: Expected, stretches: usize) {
     match e {
-        Expected::ShorterLine => filled(out, at, b"more than # octets", &[LONGEST as u64]),
-        Expected::FewerStretches => number(out, at, stretches as u64),
-        _ => put_word(out, at, line, e),
+        Expected::ShorterLine => out.filled(b"more than # octets", &[LONGEST as u64]),
+        Expected::FewerStretches => out.number(stretches as u64),
+        _ => put_word(out, line, e),
     }
 }
 
 // The line of this number can't be read, or not be run: what was expected there. The stretches are those of the session so far.
-pub fn tell(
-    out: &mut Output,
-    at: usize,
-    number: u64,
-    e: Expected,
-    line: &[u8],
-    stretches: usize,
-) -> usize {
-    let one = filled(out, at, b"error line #: expected ", &[number]);
-    let two = what(out, one, e);
-    let three = put(out, two, b", found ");
-    let four = put_found(out, three, line, e, stretches);
-    put(out, four, b"\n")
+pub fn tell(out: &mut Output, number: u64, e: Expected, line: &[u8], stretches: usize) {
+    out.filled(b"error line #: expected ", &[number]);
+    put_expected(out, e);
+    out.put(b", found ");
+    put_found(out, line, e, stretches);
+    out.put(b"\n")
 }
 
 // The line of this number is not there whole: the list's input failed.
-pub fn unread(out: &mut Output, at: usize, number: u64) -> usize {
-    filled(
-        out,
-        at,
-        b"error line #: the list can't be read on\n",
-        &[number],
-    )
+pub fn unread(out: &mut Output, number: u64) {
+    out.filled(b"error line #: the list can't be read on\n", &[number])
 }

@@ -1,6 +1,5 @@
 // The rows of a session's account (tally::rows), as lines of text.
-use console::output::{Output, put};
-use console::pattern::nth_filled;
+use console::output::Output;
 use tally::rows::Row;
 
 // The words of each row's line, in the order of their numbers: STRETCH, TOTAL, COUNTERS, GAP. # is the next of the row's numbers.
@@ -9,8 +8,7 @@ const LINES: [u8; 225] = *b"stretch # at # last # first # highest # samples # mi
     counters dropped # gaps # malformed # loss #\n\
     gap stretch # after # datagrams # samples #";
 
-pub fn tell(out: &mut Output, at: usize, r: Row) -> usize {
-    let numbers = r.numbers;
-    let end = nth_filled(out, at, &LINES, b'\n', r.line, &numbers);
-    put(out, end, b"\n")
+pub fn tell(out: &mut Output, r: Row) {
+    out.nth_filled(&LINES, b'\n', r.line, &r.numbers);
+    out.put(b"\n")
 }

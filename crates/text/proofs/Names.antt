@@ -2,13 +2,17 @@
 use mathlib.Core.Path.{◌≡◌, refl, sym}
 use mathlib.Core.Bool.{Bool, true, false, ◌&&◌, true≢false}
 use mathlib.Core.List.{List, [], ◌∷◌}
-use Prim.Native.Nat.{ℕ, suc, ◌+◌, ◌≤◌}
+use Prim.Native.Nat.{ℕ, suc, ◌+◌, ◌≤◌, ◌<◌}
 use native.Mathlib.Omega.{arith}
-use borrow.Author.Tests.{eq-eqb, eqb-true}
-use lib.Dec.{eqb}
+use borrow.Author.Tests.{eq-eqb, eqb-true, lt-ltb, le-ltb, ltb-true, ltb-false}
+use lib.Dec.{eqb, ltb}
+use Rattle.std.specs.Prelude.{cond, Some, None}
+use Rattle.std.specs.Str.{bytes_eq}
+use Rattle.std.proofs.lemmas.Bool.Decides.{Decides-eqb}
+use Rattle.std.proofs.lemmas.Slice.Eq.{slice_eq-Decides}
 use lib.ListN.{length, drop}
 use Rattle.text.specs.Split.{words, part, WordAt}
-use Rattle.text.specs.Name.{same, place}
+use Rattle.text.specs.Name.{same, place, found}
 use Rattle.text.proofs.Splits.{no_word, one_word}
 
 pub same_self : (a : List ℕ) → same a a ≡ true
@@ -39,21 +43,62 @@ pub same-told : (r : Bool) (a b : List ℕ) → (r ≡ true → a ≡ b) → (a 
 same-told true a b y n = sym (rw (y refl) (same_self b))
 same-told false a b y n = sym (same_false a b (λ e. true≢false (sym (n e))))
 
+-- what `==` of two slices tells
+pub eq-told : (a b : List ℕ) (r : Bool) → r ≡ bytes_eq a b → r ≡ same a b
+eq-told a b r e = let h = slice_eq-Decides Decides-eqb a b r e in same-told r a b h.0 h.1
+
+-- ---- where a name is found, and where it is not
+
+module _ (w : List ℕ) (ws : List (List ℕ)) where
+  found-here : (k : ℕ) → place w ws ≡ k → k < length ws → Some k ≡ found w ws
+  unfolding found
+  found-here k e h = rw (e, lt-ltb k (length ws) h)
+
+  not-found : length ws ≤ place w ws → None ≡ found w ws
+  unfolding found
+  not-found h = rw (le-ltb (place w ws) (length ws) h)
+
+  pub found-place : (k : ℕ) → found w ws ≡ Some k → (k ≡ place w ws) × (k < length ws)
+  unfolding found
+  found-place k e = go (ltb (place w ws) (length ws)) refl e
+    where
+      go : (b : Bool) → ltb (place w ws) (length ws) ≡ b → cond b (Some (place w ws)) None ≡ Some k → (k ≡ place w ws) × (k < length ws)
+      go true t e = let h = ltb-true (place w ws) (length ws) t in let z : place w ws ≡ k = cc in (omega arith, omega arith)
+      go false t e = let z : ◌≡◌ {A = ℕ} 0 1 = cc in absurd (omega arith)
+
+  pub none-found : found w ws ≡ None → length ws ≤ place w ws
+  unfolding found
+  none-found e = go (ltb (place w ws) (length ws)) refl e
+    where
+      go : (b : Bool) → ltb (place w ws) (length ws) ≡ b → cond b (Some (place w ws)) None ≡ None → length ws ≤ place w ws
+      go true t e = let z : ◌≡◌ {A = ℕ} 0 1 = cc in absurd (omega arith)
+      go false t e = ltb-false (place w ws) (length ws) t
+
 -- k names before at were none of them w
 abbrev pub Sought : List ℕ → List ℕ → ℕ → ℕ → Type 0
-Sought w s at k = (at ≤ length s) × (k ≤ at) × (place w (words s) ≡ k + place w (words (drop at s)))
+Sought w s at k = (at ≤ length s) × (k ≤ at) × (place w (words s) ≡ k + place w (words (drop at s))) × (length (words s) ≡ k + length (words (drop at s)))
 
 module _ (w s : List ℕ) (at k start end : ℕ) (i : Sought w s at k) (h : WordAt s at start end) where
-  pub not_there : start ≡ end → k ≡ place w (words s)
+  pub not_there : start ≡ end → None ≡ found w (words s)
   unfolding place
-  not_there e = let m : place w (words (drop at s)) ≡ 0 = rw (no_word s at start end h e) in omega (arith, i.2, m)
+  not_there e =
+      let q = no_word s at start end h e in
+      let m : place w (words (drop at s)) ≡ 0 = rw q in
+      let l : length (words (drop at s)) ≡ 0 = rw q in
+      not-found w (words s) (omega (arith, i.2, i.3, m, l))
 
-  pub there : (start ≡ end → ⊥) → part s start end ≡ w → k ≡ place w (words s)
+  pub there : (start ≡ end → ⊥) → part s start end ≡ w → Some k ≡ found w (words s)
   unfolding place
-  there n e = let m : place w (words (drop at s)) ≡ 0 = rw (one_word s at start end h n, e, same_self w) in omega (arith, i.2, m)
+  there n e =
+      let q = one_word s at start end h n in
+      let m : place w (words (drop at s)) ≡ 0 = rw (q, e, same_self w) in
+      let l : length (words (drop at s)) ≡ suc (length (words (drop end s))) = rw q in
+      found-here w (words s) k (omega (arith, i.2, m)) (omega (arith, i.3, l))
 
   pub go_on : (start ≡ end → ⊥) → (part s start end ≡ w → ⊥) → Sought w s end (k + 1)
   unfolding place
   go_on n e =
-      let m : place w (words (drop at s)) ≡ suc (place w (words (drop end s))) = rw (one_word s at start end h n, same_false (part s start end) w e) in
-      (h.within, omega (arith, h.from, h.ordered, i.1), omega (arith, i.2, m))
+      let q = one_word s at start end h n in
+      let m : place w (words (drop at s)) ≡ suc (place w (words (drop end s))) = rw (q, same_false (part s start end) w e) in
+      let l : length (words (drop at s)) ≡ suc (length (words (drop end s))) = rw q in
+      (h.within, omega (arith, h.from, h.ordered, i.1), omega (arith, i.2, m), omega (arith, i.3, l))

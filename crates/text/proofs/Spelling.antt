@@ -1,16 +1,14 @@
 -- A loop that reads digits: what each octet makes of the number so far. Assumes nothing.
 use mathlib.Core.Path.{◌≡◌, refl}
-use mathlib.Core.Bool.{true, false, and-false}
+use mathlib.Core.Bool.{true, false}
 use mathlib.Core.List.{List, [], ◌∷◌}
-use Prim.Native.Nat.{ℕ, ◌+◌, ◌-◌, ◌*◌, ◌/◌, ◌≤◌, ◌<◌}
-use native.Mathlib.Nat.{le-div_iff_mul-le, div-lt_iff_lt-mul}
+use Prim.Native.Nat.{ℕ, ◌+◌, ◌-◌, ◌*◌, ◌≤◌, ◌<◌}
 use native.Mathlib.Numerals.{add-one}
 use native.Mathlib.Omega.{arith}
-use borrow.Author.Tests.{lt-ltb, le-ltb, le-leb, lt-leb, eq-eqb, ne_eqb}
-use lib.Dec.{eqb}
+use borrow.Author.Tests.{lt-ltb, le-ltb, le-leb, lt-leb}
 use lib.ListN.{length, get_or, take, drop, drop_of_length-le, length-drop}
 use lib.Seq.{drop-cons, take_all}
-use Rattle.text.specs.declared.Spelt.TheVariants.{Number, Nothing}
+use Rattle.std.specs.Prelude.{Some, None}
 use Rattle.text.specs.Number.{digit_of, digits_after, digits_of, is_hex, number_of}
 
 abbrev most : ℕ
@@ -25,13 +23,13 @@ unfolding digits_of
 none_read b [] h = absurd (h refl)
 none_read b (x ∷ xs) h = (omega arith, refl)
 
-pub no-digits : (b : ℕ) (s : List ℕ) → length s ≡ 0 → Nothing ≡ digits_of b s
+pub no-digits : (b : ℕ) (s : List ℕ) → length s ≡ 0 → None ≡ digits_of b s
 unfolding digits_of
 no-digits b [] h = refl
 no-digits b (x ∷ xs) h = absurd (omega arith)
 
 module _ (b : ℕ) (s : List ℕ) (n i : ℕ) (k : Read b s n i) where
-  pub all_read : length s ≤ i → Number n ≡ digits_of b s
+  pub all_read : length s ≤ i → Some n ≡ digits_of b s
   unfolding digits_after
   all_read h = rw (drop_of_length-le s h) at k.1
 
@@ -40,27 +38,13 @@ module _ (b : ℕ) (s : List ℕ) (n i : ℕ) (k : Read b s n i) where
     unfolding digits_after
     one-read u f = (omega arith, rw (add-one) (rw (drop-cons s i 0 h, ← e, lt-ltb _ _ u, le-leb _ _ f) at k.1))
 
-    pub not-a-digit : b ≤ d → Nothing ≡ digits_of b s
+    pub not-a-digit : b ≤ d → None ≡ digits_of b s
     unfolding digits_after
     not-a-digit u = rw (drop-cons s i 0 h, ← e, le-ltb _ _ u) at k.1
 
-    pub too_large : d < b → most < n * b + d → Nothing ≡ digits_of b s
+    pub too_large : d < b → most < n * b + d → None ≡ digits_of b s
     unfolding digits_after
     too_large u f = rw (drop-cons s i 0 h, ← e, lt-ltb _ _ u, lt-leb _ _ f) at k.1
-
-pub short-not-hex : (s : List ℕ) → length s < 2 → is_hex s ≡ false
-unfolding is_hex
-short-not-hex [] h = refl
-short-not-hex (x ∷ []) h = and-false (eqb x 48)
-short-not-hex (x ∷ y ∷ zs) h = absurd (omega arith)
-
-pub other-not-hex : (s : List ℕ) → (get_or s 0 0 ≡ 48 → ⊥) → is_hex s ≡ false
-unfolding is_hex
-other-not-hex s h = rw (ne_eqb _ _ h)
-
-pub second-tells : (s : List ℕ) → get_or s 0 0 ≡ 48 → is_hex s ≡ eqb (get_or s 1 0) 120
-unfolding is_hex
-second-tells s h = rw (eq-eqb _ _ h)
 
 pub hex-number : (s : List ℕ) → is_hex s ≡ true → digits_of 16 (take (length s - 2) (drop 2 s)) ≡ number_of s
 unfolding number_of
@@ -69,11 +53,3 @@ hex-number s h = rw (h, take_all (length s - 2) (drop 2 s) (simp length-drop (om
 pub plain-number : (s : List ℕ) → is_hex s ≡ false → digits_of 10 s ≡ number_of s
 unfolding number_of
 plain-number s h = rw h
-
--- the test that the code makes before it multiplies
-module _ (b n d : ℕ) (p : 0 < b) (q : d ≤ most) where
-  pub fits : n ≤ (most - d) / b → n * b + d ≤ most
-  fits h = let k : n * b ≤ most - d = (le-div_iff_mul-le p).0 h in omega arith
-
-  pub over : (most - d) / b < n → most < n * b + d
-  over h = let k : most - d < n * b = (div-lt_iff_lt-mul p).0 h in omega arith

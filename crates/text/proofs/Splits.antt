@@ -3,11 +3,10 @@ use mathlib.Core.Path.{◌≡◌, refl, sym, ap, ◌∙◌}
 use mathlib.Core.Bool.{Bool, true, false, not, cond}
 use mathlib.Core.List.{List, [], ◌∷◌}
 use Prim.Native.Nat.{ℕ, zero, suc, ◌+◌, ◌-◌, ◌≤◌, ◌<◌}
-use native.Mathlib.Numerals.{add-one}
 use native.Mathlib.Omega.{arith}
 use lib.ListN.{length, take, drop, length-take, length-drop, take-append-drop, drop_of_length-le}
-use lib.Seq.{drop-drop, drop-cons, take_all, take-append-le, drop-append-le}
-use Rattle.text.specs.Run.{run, is, other}
+use lib.Seq.{drop-drop, take_all, take-append-le, drop-append-le}
+use Rattle.text.specs.Run.{run}
 use Rattle.text.specs.Split.{grown, parts, not_empty, blank, filled, words, before, part, WordAt}
 
 module _ (p : ℕ → Bool) where
@@ -42,27 +41,6 @@ module _ (p : ℕ → Bool) where
           → drop (cond b (suc (run p xs)) 0) (x ∷ xs) ≡ []
       go k true e h = k h
       go k false e h = let z : suc (run others xs) ≡ 0 = rw e at h in absurd (omega arith)
-
-  pub some-part : (s : List ℕ) → parts p s ≡ [] → ⊥
-  some-part s e = let z : ◌≡◌ {A = ℕ} 0 1 = cc (first_part s) in omega arith
-
--- the part from at on, of those that the octet b ends
-module _ (b : ℕ) (s : List ℕ) (at end : ℕ) (e : end ≡ at + run (other b) (drop at s)) where
-  here : parts (is b) (drop at s) ≡ part s at end ∷ after (is b) (drop end s)
-  here =
-      let n = run (other b) (drop at s) in
-      let q : n ≡ end - at = omega arith in
-      first_part (is b) (drop at s)
-      ∙ ap (λ (l : List ℕ). take n (drop at s) ∷ after (is b) l) (drop-drop n at s ∙ ap (λ (j : ℕ). drop j s) (sym e))
-      ∙ ap (λ (j : ℕ). take j (drop at s) ∷ after (is b) (drop end s)) q
-
-  pub last-part : end ≡ length s → parts (is b) (drop at s) ≡ part s at end ∷ []
-  unfolding after
-  last-part h = here ∙ rw (drop_of_length-le s {i = end} (omega arith))
-
-  pub next-part : end < length s → parts (is b) (drop at s) ≡ part s at end ∷ parts (is b) (drop (end + 1) s)
-  unfolding after
-  next-part h = here ∙ rw (drop-cons s end 0 h, add-one end)
 
 -- ---- words
 

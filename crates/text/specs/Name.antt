@@ -1,5 +1,5 @@
 -- A name's place in a list of names. Definitions only.
-use Rattle.std.specs.Prelude.{ℕ, zero, suc, ◌+◌, Bool, true, false, cond, ◌&&◌, List, [], ◌∷◌, eqb}
+use Rattle.std.specs.Prelude.{ℕ, zero, suc, ◌+◌, Bool, true, false, cond, ◌&&◌, List, [], ◌∷◌, eqb, ltb, length, Option, Some, None}
 use Prim.Native.Char.{code}
 use Prim.Native.String.{String, len, char_at}
 
@@ -13,6 +13,10 @@ same (x ∷ xs) (y ∷ ys) = eqb x y && same xs ys
 unfoldable pub place : List ℕ → List (List ℕ) → ℕ
 place w [] = 0
 place w (x ∷ xs) = cond (same x w) 0 (suc (place w xs))
+
+-- the first place at which w stands, where it stands among them
+unfoldable pub found : List ℕ → List (List ℕ) → Option ℕ
+found w ws = cond (ltb (place w ws) (length ws)) (Some (place w ws)) None
 
 -- n characters from i on
 abbrev pub codes_from : String → ℕ → ℕ → List ℕ

@@ -5,74 +5,39 @@ ghost use Rattle.std.specs.Prelude.{◌≡◌, ◌≤◌, true, length};
 ghost use Rattle.text.specs.Run.{run, is, other};
 ghost use Rattle.text.specs.Number.{digit_of, digits_of, is_hex, number_of};
 ghost use Rattle.text.specs.Split.{blank, filled, words, WordAt};
-ghost use Rattle.text.specs.Name.{place};
+ghost use Rattle.text.specs.Name.{found};
 
 // How many octets at the front of s equal b.
 pub fn past(s: &[u8], b: u8) -> usize
     ensures { (result ≡ run (is b) s.now) × (result ≤ length s.now) }
 {
-    let mut i = 0;
-    while i < s.len() {
-        if s[i] != b {
-            return i;
-        }
-        i += 1;
-    }
-    i
+    s.iter().position(|x| *x != b).unwrap_or(s.len())
 }
 
 // Where b first stands in s, or the length of s.
 pub fn find(s: &[u8], b: u8) -> usize
     ensures { (result ≡ run (other b) s.now) × (result ≤ length s.now) }
 {
-    let mut i = 0;
-    while i < s.len() {
-        if s[i] == b {
-            return i;
-        }
-        i += 1;
-    }
-    i
+    s.iter().position(|x| *x == b).unwrap_or(s.len())
 }
 
 // A space, a tab or a carriage return.
 fn is_blank(x: u8) -> bool
     ensures { result ≡ blank x }
 {
-    if x == b' ' {
-        return true;
-    }
-    if x == b'\t' {
-        return true;
-    }
-    x == b'\r'
+    x == b' ' || x == b'\t' || x == b'\r'
 }
 
 fn past_blanks(s: &[u8]) -> usize
     ensures { (result ≡ run blank s.now) × (result ≤ length s.now) }
 {
-    let mut i = 0;
-    while i < s.len() {
-        if is_blank(s[i]) {
-            i += 1;
-        } else {
-            return i;
-        }
-    }
-    i
+    s.iter().position(|x| !is_blank(*x)).unwrap_or(s.len())
 }
 
 fn find_blank(s: &[u8]) -> usize
     ensures { (result ≡ run filled s.now) × (result ≤ length s.now) }
 {
-    let mut i = 0;
-    while i < s.len() {
-        if is_blank(s[i]) {
-            return i;
-        }
-        i += 1;
-    }
-    i
+    s.iter().position(|x| is_blank(*x)).unwrap_or(s.len())
 }
 
 #[derive(Clone, Copy)]
@@ -94,9 +59,10 @@ pub fn word_at(s: &[u8], at: usize) -> Word
     Word { start, end }
 }
 
-// The place of w among names with blanks between them, or how many these are.
-pub fn place_of(w: &[u8], names: &[u8]) -> usize
-    ensures { result ≡ place w.now (words names.now) }
+// The place of w among names with blanks between them. It goes from word to word: `split` gives an empty part
+// for each further blank, and to leave those out of the count is no plainer.
+pub fn place_of(w: &[u8], names: &[u8]) -> Option<usize>
+    ensures { result ≡ found w.now (words names.now) }
 {
     let mut at = 0;
     let mut k = 0;
@@ -105,85 +71,55 @@ pub fn place_of(w: &[u8], names: &[u8]) -> usize
         let start = word.start;
         let end = word.end;
         if start == end {
-            return k;
+            return None;
         }
-        if check::same(&names[start..end], w) {
-            return k;
+        if &names[start..end] == w {
+            return Some(k);
         }
         at = end;
         k += 1;
     }
 }
 
-#[derive(Clone, Copy)]
-pub enum Spelt {
-    Number(u64),
-    Nothing,
-}
-
-// The value of a digit, 0 to 9, a to f and A to F, and 16 of what is none.
+// The value of a digit, 0 to 9, a to f and A to F, and 16 of what is none. That is a number too, and no `None`, since `digits` goes by it
+// in every base, those above 16 too (`digits_of`, specs/Number).
 pub fn digit(x: u8) -> u64
     ensures { (result ≡ digit_of x) × (result ≤ 16) }
 {
-    let n = x as u64;
-    if n < 48 {
-        return 16;
+    match x {
+        b'0'..=b'9' => x as u64 - 48,
+        b'A'..=b'F' => x as u64 - 55,
+        b'a'..=b'f' => x as u64 - 87,
+        _ => 16,
     }
-    if n < 58 {
-        return n - 48;
-    }
-    if n < 65 {
-        return 16;
-    }
-    if n < 71 {
-        return n - 55;
-    }
-    if n < 97 {
-        return 16;
-    }
-    if n < 103 {
-        return n - 87;
-    }
-    16
 }
 
 // The number that s spells in a base: one digit or more, each below the base, and no more than a u64 holds.
-pub fn digits(s: &[u8], base: u64) -> Spelt
+pub fn digits(s: &[u8], base: u64) -> Option<u64>
     ensures { result ≡ digits_of base s.now }
 {
-    if s.len() == 0 {
-        return Spelt::Nothing;
+    if s.is_empty() {
+        return None;
     }
-    let mut n = 0;
-    let mut i = 0;
-    while i < s.len() {
-        let d = digit(s[i]);
+    let mut n: u64 = 0;
+    for x in s {
+        let d = digit(*x);
         if d >= base {
-            return Spelt::Nothing;
+            return None;
         }
-        if n > (18446744073709551615 - d) / base {
-            return Spelt::Nothing;
-        }
-        n = n * base + d;
-        i += 1;
+        n = n.checked_mul(base)?.checked_add(d)?;
     }
-    Spelt::Number(n)
+    Some(n)
 }
 
 fn is_hex(s: &[u8]) -> bool
     ensures { (result ≡ is_hex s.now) × (result ≡ true → 2 ≤ length s.now) }
 {
-    if s.len() < 2 {
-        return false;
-    }
-    if s[0] != b'0' {
-        return false;
-    }
-    s[1] == b'x'
+    s.len() >= 2 && s[0] == b'0' && s[1] == b'x'
 }
 
 // A number in decimal, or in hexadecimal after 0x.
-pub fn number(s: &[u8]) -> Spelt
+pub fn number(s: &[u8]) -> Option<u64>
     ensures { result ≡ number_of s.now }
 {
     if is_hex(s) {

@@ -1,13 +1,11 @@
 -- The rates that are accepted, and what a receive packet writes for each: 01's row 3, by the formula of 2026-03. Definitions only.
-use Rattle.std.specs.Prelude.{ℕ, zero, suc, ◌*◌, ◌/◌, ◌^◌, ◌≤◌, Bool, false, ◌||◌, [], ◌∷◌, pos, Float}
+use Rattle.std.specs.Prelude.{ℕ, zero, suc, ◌*◌, ◌/◌, ◌^◌, ◌≤◌, Bool, false, ◌||◌, [], ◌∷◌, pos, Float, Option, Some, None}
 use Rattle.std.specs.Float.{binary64}
 use Rattle.std.specs.Float.Ieee.{of_int, eq}
 use Rattle.std.specs.Float.Ieee.Exact.{HasValue}
 use Rattle.base.specs.Pick.{pick}
 use Rattle.base.specs.Told.{Told, gives, refused}
 use Rattle.double.specs.Whole.{floor_of}
-use Rattle.tuning.specs.declared.rate.RateAnswer.{RateAnswer}
-use Rattle.tuning.specs.declared.rate.RateAnswer.TheVariants.{Khz, NotEncodable}
 
 -- in Hz
 abbrev pub lowest_rate : ℕ
@@ -41,9 +39,9 @@ is_rate_khz khz = is_rate (of_int binary64 (pos (khz * 1000)))
 unfoldable pub rate_told : Float → Told
 rate_told x = pick (is_rate x) (gives (khz_of x ∷ [])) (refused 3 [])
 
-abbrev pub rate_answer : RateAnswer → Told
-rate_answer (Khz khz) = gives (khz ∷ [])
-rate_answer NotEncodable = refused 3 []
+abbrev pub rate_answer : Option ℕ → Told
+rate_answer (Some khz) = gives (khz ∷ [])
+rate_answer None = refused 3 []
 
 -- ---- what passes, in the request's words and with no test of a double (`rate-exactly`)
 

@@ -1,7 +1,7 @@
 // The Alex filter words of a board at a frequency: three ladders, each of six rungs.
 ghost use Rattle.std.specs.Prelude.{◌≡◌};
 ghost use Rattle.base.specs.Search.{first};
-ghost use Rattle.tuning.specs.Alex.{on_rung, ladder_of, hpf_of, lpf_of, bpf_of, alex_words};
+ghost use Rattle.tuning.specs.Alex.{on_rung, ladder_of, alex_words};
 
 use super::board::FilterScheme;
 
@@ -51,68 +51,78 @@ const BYPASS_ALEX0: u32 = LPF_6M_BYPASS | ALEX_BYPASS;
 
 const BYPASS_ALEX1: u32 = LPF_6M_BYPASS;
 
-// Whether a ladder's limits fall.
-const RISING: bool = false;
+// Six rungs, each up to its limit.
+#[derive(Clone, Copy)]
+struct Ladder {
+    // whether its limits fall
+    falling: bool,
+    limits: [f64; 6],
+    // of each rung, and those past the last
+    bits: [u32; 7],
+}
 
-const FALLING: bool = true;
+const HPF: Ladder = Ladder {
+    falling: false,
+    limits: [
+        1_800_000.0,
+        6_500_000.0,
+        9_500_000.0,
+        13_000_000.0,
+        20_000_000.0,
+        50_000_000.0,
+    ],
+    bits: [
+        ALEX_BYPASS,
+        HPF_1_5_MHZ,
+        HPF_6_5_MHZ,
+        HPF_9_5_MHZ,
+        HPF_13_MHZ,
+        HPF_20_MHZ,
+        HPF_6M_PREAMP,
+    ],
+};
 
-// A ladder is its limits, and the bits of each rung with those past the last.
-const HPF_LIMITS: [f64; 6] = [
-    1_800_000.0,
-    6_500_000.0,
-    9_500_000.0,
-    13_000_000.0,
-    20_000_000.0,
-    50_000_000.0,
-];
+const LPF: Ladder = Ladder {
+    falling: true,
+    limits: [
+        35_600_000.0,
+        24_000_000.0,
+        16_500_000.0,
+        8_000_000.0,
+        5_000_000.0,
+        2_500_000.0,
+    ],
+    bits: [
+        LPF_6M_BYPASS,
+        LPF_12_10M,
+        LPF_17_15M,
+        LPF_30_20M,
+        LPF_60_40M,
+        LPF_80M,
+        LPF_160M,
+    ],
+};
 
-const HPF_BITS: [u32; 7] = [
-    ALEX_BYPASS,
-    HPF_1_5_MHZ,
-    HPF_6_5_MHZ,
-    HPF_9_5_MHZ,
-    HPF_13_MHZ,
-    HPF_20_MHZ,
-    HPF_6M_PREAMP,
-];
-
-const LPF_LIMITS: [f64; 6] = [
-    35_600_000.0,
-    24_000_000.0,
-    16_500_000.0,
-    8_000_000.0,
-    5_000_000.0,
-    2_500_000.0,
-];
-
-const LPF_BITS: [u32; 7] = [
-    LPF_6M_BYPASS,
-    LPF_12_10M,
-    LPF_17_15M,
-    LPF_30_20M,
-    LPF_60_40M,
-    LPF_80M,
-    LPF_160M,
-];
-
-const BPF_LIMITS: [f64; 6] = [
-    1_500_000.0,
-    2_100_000.0,
-    5_500_000.0,
-    11_000_000.0,
-    22_000_000.0,
-    35_000_000.0,
-];
-
-const BPF_BITS: [u32; 7] = [
-    ALEX_BYPASS,
-    BPF_160M,
-    BPF_80_60M,
-    BPF_40_30M,
-    BPF_20_15M,
-    BPF_12_10M,
-    BPF_6M,
-];
+const BPF: Ladder = Ladder {
+    falling: false,
+    limits: [
+        1_500_000.0,
+        2_100_000.0,
+        5_500_000.0,
+        11_000_000.0,
+        22_000_000.0,
+        35_000_000.0,
+    ],
+    bits: [
+        ALEX_BYPASS,
+        BPF_160M,
+        BPF_80_60M,
+        BPF_40_30M,
+        BPF_20_15M,
+        BPF_12_10M,
+        BPF_6M,
+    ],
+};
 
 #[derive(Clone, Copy)]
 pub struct AlexWords {
@@ -130,61 +140,44 @@ fn on_rung(falling: bool, f: f64, limit: f64) -> bool
     f < limit
 }
 
-// The place of the first rung that f stands on, 6 where there is none.
-fn rung(falling: bool, limits: [f64; 6], f: f64) -> usize
-    ensures { result ≡ first (on_rung falling f) limits }
-{
-    let mut i = 0;
-    while i < 6 {
-        if on_rung(falling, f, limits[i]) {
-            return i;
+impl Ladder {
+    // The place of the first rung that f stands on, 6 where there is none.
+    fn rung(self, f: f64) -> usize
+        ensures { result ≡ first (on_rung self.falling f) self.limits }
+    {
+        for i in 0..6 {
+            if on_rung(self.falling, f, self.limits[i]) {
+                return i;
+            }
         }
-        i += 1;
+        6
     }
-    i
+
+    // The bits of that rung.
+    fn bits_at(self, f: f64) -> u32
+        ensures { result ≡ ladder_of self.falling self.limits self.bits f }
+    {
+        self.bits[self.rung(f)]
+    }
 }
 
-// The bits of that rung.
-fn ladder(falling: bool, limits: [f64; 6], bits: [u32; 7], f: f64) -> u32
-    ensures { result ≡ ladder_of falling limits bits f }
-{
-    bits[rung(falling, limits, f)]
-}
-
-fn hpf(f: f64) -> u32
-    ensures { result ≡ hpf_of f }
-{
-    ladder(RISING, HPF_LIMITS, HPF_BITS, f)
-}
-
-fn lpf(f: f64) -> u32
-    ensures { result ≡ lpf_of f }
-{
-    ladder(FALLING, LPF_LIMITS, LPF_BITS, f)
-}
-
-fn bpf(f: f64) -> u32
-    ensures { result ≡ bpf_of f }
-{
-    ladder(RISING, BPF_LIMITS, BPF_BITS, f)
-}
-
+// The words of a scheme at f.
 pub fn alex_words(scheme: FilterScheme, f: f64) -> AlexWords
     ensures { result ≡ alex_words scheme f }
 {
     match scheme {
         FilterScheme::None => AlexWords { alex0: 0, alex1: 0 },
         FilterScheme::Classic => AlexWords {
-            alex0: hpf(f) | lpf(f),
-            alex1: lpf(f),
+            alex0: HPF.bits_at(f) | LPF.bits_at(f),
+            alex1: LPF.bits_at(f),
         },
         FilterScheme::BandPassDual => AlexWords {
-            alex0: bpf(f) | lpf(f),
-            alex1: ALEX_BYPASS | lpf(f),
+            alex0: BPF.bits_at(f) | LPF.bits_at(f),
+            alex1: ALEX_BYPASS | LPF.bits_at(f),
         },
         FilterScheme::BandPass => AlexWords {
-            alex0: bpf(f) | lpf(f),
-            alex1: lpf(f),
+            alex0: BPF.bits_at(f) | LPF.bits_at(f),
+            alex1: LPF.bits_at(f),
         },
         FilterScheme::Bypass => AlexWords {
             alex0: BYPASS_ALEX0,

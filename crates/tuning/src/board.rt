@@ -12,16 +12,9 @@ pub enum FilterScheme {
     Bypass,
 }
 
-// Discovery byte 11, or that discovery was skipped.
-#[derive(Clone, Copy)]
-pub enum BoardId {
-    Skipped,
-    Number(u8),
-}
-
 #[derive(Clone, Copy)]
 pub struct BoardInfo {
-    pub id: BoardId,
+    pub id: Option<u8>,
     // receive packet, byte 4
     pub adc_count: u8,
     // general packet, byte 59
@@ -29,7 +22,7 @@ pub struct BoardInfo {
     pub scheme: FilterScheme,
 }
 
-fn info(id: BoardId, adcs: u8, enable: u8, scheme: FilterScheme) -> BoardInfo
+fn info(id: Option<u8>, adcs: u8, enable: u8, scheme: FilterScheme) -> BoardInfo
     ensures { result ≡ info_of id adcs enable scheme }
 {
     BoardInfo {
@@ -41,10 +34,10 @@ fn info(id: BoardId, adcs: u8, enable: u8, scheme: FilterScheme) -> BoardInfo
 }
 
 // A board number that is not known goes as one that was not asked for.
-pub fn board_info(id: BoardId) -> BoardInfo
+pub fn board_info(id: Option<u8>) -> BoardInfo
     ensures { result ≡ board_info id }
 {
-    let BoardId::Number(n) = id else {
+    let Some(n) = id else {
         return info(id, 1, 0x01, FilterScheme::Bypass);
     };
     match n {

@@ -8,26 +8,18 @@ const LOWEST_RATE: u32 = 48_000;
 // How often it may be doubled.
 const MOST_DOUBLINGS: u32 = 3;
 
-#[derive(Clone, Copy)]
-pub enum RateAnswer {
-    Khz(u16),
-    NotEncodable,
-}
-
-// The kHz that a receive packet says for a rate in Hz. `NotEncodable`, 01's 3, where the rate is not accepted.
-pub fn rate_khz(rate: f64) -> RateAnswer
+// The kHz that a receive packet says for a rate in Hz. `None`, 01's 3, where the rate is not accepted.
+pub fn rate_khz(rate: f64) -> Option<u16>
     ensures { rate_answer result ≡ rate_told rate }
 {
     let mut hz = LOWEST_RATE;
-    let mut left = MOST_DOUBLINGS;
-    while (hz as f64) != rate {
-        if left == 0 {
-            return RateAnswer::NotEncodable;
+    for _ in 0..MOST_DOUBLINGS + 1 {
+        if (hz as f64) == rate {
+            return Some((hz / 1000) as u16);
         }
         hz *= 2;
-        left -= 1;
     }
-    RateAnswer::Khz((hz / 1000) as u16)
+    None
 }
 
 // Whether a receive packet may ask for so many kHz: the rate in Hz is put to the same test.
@@ -35,7 +27,7 @@ pub fn is_rate_khz(khz: u16) -> bool
     ensures { result ≡ is_rate_khz khz }
 {
     match rate_khz((khz as f64) * 1000.0) {
-        RateAnswer::Khz(_) => true,
-        RateAnswer::NotEncodable => false,
+        Some(_) => true,
+        None => false,
     }
 }

@@ -132,8 +132,7 @@ fn missing(s: Session) -> Replied
     ensures { Keeps result s [] TakeMissing }
 {
     let r = session::drain::take_missing_samples(s);
-    let slot = r.slot;
-    let answer = of_slot(slot);
+    let answer = of_slot(r.held);
     let session = r.session;
     Replied {
         answer,
@@ -146,8 +145,7 @@ fn discontinuity(s: Session) -> Replied
     ensures { Keeps result s [] TakeDiscontinuity }
 {
     let r = session::drain::take_discontinuity(s);
-    let slot = r.slot;
-    let answer = of_slot(slot);
+    let answer = of_slot(r.held);
     let session = r.session;
     Replied {
         answer,
@@ -160,7 +158,7 @@ fn stalled(s: Session) -> Replied
     ensures { Keeps result s [] TakeStalled }
 {
     let r = session::drain::take_stalled(s);
-    let answer = of_flag(r.stalled);
+    let answer = of_flag(r.held);
     let session = r.session;
     Replied {
         answer,

@@ -16,7 +16,7 @@ use Rattle.octets.proofs.Writes.{written_none, written-front}
 use Rattle.text.specs.Run.{run}
 use Rattle.text.specs.Name.{ascii, same}
 use Rattle.text.specs.Number.{digit_of}
-use Rattle.text.specs.declared.Spelt.TheVariants.{Number, Nothing}
+use Rattle.std.specs.Prelude.{Some, None}
 use Rattle.text.proofs.Names.{same-equal}
 use Rattle.text.proofs.Runs.{Passed, passed-next, found_here, found-end}
 use Rattle.values.specs.Octets.{hex_digit, hexadecimal, octet_at, octets_of, pairs_of, octets_seen, octet_count}
@@ -68,22 +68,22 @@ all-stored w i d e n h =
 -- ---- how many octets a word spells
 
 module _ (w : List ℕ) where
-  pub dash-count : same w (ascii "-") ≡ true → Number 0 ≡ octet_count w
+  pub dash-count : same w (ascii "-") ≡ true → Some 0 ≡ octet_count w
   unfolding octet_count
   dash-count s = sym (pick-t _ _ _ s)
 
   module _ (s : same w (ascii "-") ≡ false) where
-    pub too_long : 4096 < length w → Nothing ≡ octet_count w
+    pub too_long : 4096 < length w → None ≡ octet_count w
     unfolding octet_count
     too_long h = sym (pick-f _ _ _ s ∙ pick-f _ _ _ (rw (lt-leb (length w) 4096 h)))
 
-    pub not-hex : hexadecimal w ≡ false → Nothing ≡ octet_count w
+    pub not-hex : hexadecimal w ≡ false → None ≡ octet_count w
     unfolding octet_count
     not-hex h = sym (pick-f _ _ _ s ∙ pick-f _ _ _ (rw h (and-false (leb (length w) 4096))))
 
-    pub hex-count : (count : ℕ) → length w ≤ 4096 → hexadecimal w ≡ true → count * 2 ≡ length w → Number count ≡ octet_count w
+    pub hex-count : (count : ℕ) → length w ≤ 4096 → hexadecimal w ≡ true → count * 2 ≡ length w → Some count ≡ octet_count w
     unfolding octet_count
-    hex-count count l h e = let z : count ≡ length w / 2 = omega arith in ap Number z ∙ sym (pick-f _ _ _ s ∙ pick-t _ _ _ (rw (le-leb (length w) 4096 l, h)))
+    hex-count count l h e = let z : count ≡ length w / 2 = omega arith in ap Some z ∙ sym (pick-f _ _ _ s ∙ pick-t _ _ _ (rw (le-leb (length w) 4096 l, h)))
 
 -- ---- what is written while it is read
 
@@ -115,12 +115,12 @@ module _ (w : List ℕ) where
   seen-dash e = rw e
 
   -- of a word that can be read: its octets
-  pub seen-octets : (n : ℕ) → octet_count w ≡ Number n → octets_seen w ≡ octets_of w
+  pub seen-octets : (n : ℕ) → octet_count w ≡ Some n → octets_seen w ≡ octets_of w
   unfolding octet_count pick
   seen-octets n e = go (same w (ascii "-")) (leb (length w) 4096 && hexadecimal w) refl refl e
     where
       go : (a b : Bool) → same w (ascii "-") ≡ a → (leb (length w) 4096 && hexadecimal w) ≡ b
-          → pick a (Number 0) (pick b (Number (length w / 2)) Nothing) ≡ Number n → octets_seen w ≡ octets_of w
+          → pick a (Some 0) (pick b (Some (length w / 2)) None) ≡ Some n → octets_seen w ≡ octets_of w
       go true b s t e = seen-dash (same-equal _ _ s)
       go false true s t e = let k = (and-eq-true_iff (leb (length w) 4096) (hexadecimal w)).0 t in seen-hex k.0 k.1
       go false false s t e = let z : ◌≡◌ {A = ℕ} 0 1 = cc in absurd (omega arith)

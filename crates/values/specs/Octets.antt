@@ -1,12 +1,10 @@
 -- Octets in hexadecimal. Definitions only.
-use Rattle.std.specs.Prelude.{ℕ, ◌+◌, ◌*◌, ◌/◌, ◌%◌, Bool, ◌&&◌, List, [], ltb, leb, eqb, length, get_or}
+use Rattle.std.specs.Prelude.{ℕ, ◌+◌, ◌*◌, ◌/◌, ◌%◌, Bool, ◌&&◌, List, [], ltb, leb, eqb, length, get_or, Option, Some, None}
 use Rattle.base.specs.Pick.{pick}
 use Rattle.octets.specs.Table.{tab}
 use Rattle.text.specs.Run.{run}
 use Rattle.text.specs.Name.{ascii, same}
 use Rattle.text.specs.Number.{digit_of}
-use Rattle.text.specs.declared.Spelt.{Spelt}
-use Rattle.text.specs.declared.Spelt.TheVariants.{Number, Nothing}
 
 abbrev pub hex_digit : ℕ → Bool
 hex_digit x = ltb (digit_of x) 16
@@ -32,7 +30,7 @@ unfoldable pub octets_seen : List ℕ → List ℕ
 octets_seen w = pick (leb (length w) 4096 && eqb (length w % 2) 0) (pairs_of w) []
 
 -- how many octets, at most 2048
-unfoldable pub octet_count : List ℕ → Spelt
+unfoldable pub octet_count : List ℕ → Option ℕ
 octet_count w =
-    pick (same w (ascii "-")) (Number 0)
-    (pick (leb (length w) 4096 && hexadecimal w) (Number (length w / 2)) Nothing)
+    pick (same w (ascii "-")) (Some 0)
+    (pick (leb (length w) 4096 && hexadecimal w) (Some (length w / 2)) None)

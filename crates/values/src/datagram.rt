@@ -10,13 +10,11 @@ fn put_pairs(p: &mut [u8], number: u32)
     ensures { p.new ≡ written p.old 16 (pairs number 238) }
 {
     let first = number as u64 * SAMPLES_PER_DATAGRAM;
-    let mut j: u64 = 0;
-    while j < SAMPLES_PER_DATAGRAM {
+    for j in 0..SAMPLES_PER_DATAGRAM {
         let i = ((first + j) % 16777216) as u32;
         let at = 16 + 6 * j as usize;
         octets::put_u24(p, at, i);
         octets::put_u24(p, at + 3, 16777215 - i);
-        j += 1;
     }
 }
 

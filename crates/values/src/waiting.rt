@@ -4,36 +4,23 @@ ghost use Rattle.octets.specs.Written.{written};
 ghost use Rattle.values.specs.Waiting.{from, span_of, waiting_count, waiting_seen};
 
 use super::reading::number;
-use text::Spelt;
 
 // The first of numbers that follow each other, and how many.
-#[derive(Clone, Copy)]
-pub enum Span {
-    Numbers(u64, u64),
-    Neither,
-}
-
-fn span_of(p: &[u8]) -> Span
+fn span_of(p: &[u8]) -> Option<(u64, u64)>
     ensures { result ≡ span_of p.now }
 {
     let dash = text::find(p, b'-');
     if dash == p.len() {
-        let Spelt::Number(n) = number(p, 4294967295) else {
-            return Span::Neither;
-        };
-        return Span::Numbers(n, 1);
+        let n = number(p, 4294967295)?;
+        return Some((n, 1));
     }
-    let Spelt::Number(a) = number(&p[..dash], 4294967295) else {
-        return Span::Neither;
-    };
+    let a = number(&p[..dash], 4294967295)?;
     let second = dash + 1;
-    let Spelt::Number(b) = number(&p[second..], 4294967295) else {
-        return Span::Neither;
-    };
+    let b = number(&p[second..], 4294967295)?;
     if a <= b {
-        return Span::Numbers(a, b - a + 1);
+        return Some((a, b - a + 1));
     }
-    Span::Neither
+    None
 }
 
 // Puts k numbers from `first` on at a place.
@@ -41,34 +28,25 @@ fn fill(numbers: &mut [u32], at: usize, first: u64, k: u64)
     requires { (at + k ≤ length numbers.old) × (first + k ≤ 4294967296) }
     ensures { numbers.new ≡ written numbers.old at (from first k) }
 {
-    let mut i: u64 = 0;
-    while i < k {
+    for i in 0..k {
         numbers[at + i as usize] = (first + i) as u32;
-        i += 1;
     }
 }
 
 // With commas between: how many. A word that can't be read leaves what was written before its reading stopped.
-pub fn waiting(w: &[u8], numbers: &mut [u32]) -> Spelt
+pub fn waiting(w: &[u8], numbers: &mut [u32]) -> Option<u64>
     requires { 8193 ≤ length numbers.old }
     ensures { (result ≡ waiting_count w.now) ×
         (numbers.new ≡ written numbers.old 0 (waiting_seen w.now)) }
 {
     let mut n: u64 = 0;
-    let mut at = 0;
-    loop {
-        let end = at + text::find(&w[at..], b',');
-        let Span::Numbers(first, k) = span_of(&w[at..end]) else {
-            return Spelt::Nothing;
-        };
+    for part in w.split(|x| *x == b',') {
+        let (first, k) = span_of(part)?;
         if n + k > 8193 {
-            return Spelt::Nothing;
+            return None;
         }
         fill(&mut *numbers, n as usize, first, k);
         n += k;
-        if end == w.len() {
-            return Spelt::Number(n);
-        }
-        at = end + 1;
     }
+    Some(n)
 }

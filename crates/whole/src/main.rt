@@ -2,7 +2,6 @@
 // session's account and what a user reads off it. The lines `state` and `radio` are no calls, and are skipped.
 #![tactic(auto)]
 
-mod between;
 mod line;
 mod run;
 mod sessions;

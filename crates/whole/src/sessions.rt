@@ -1,10 +1,8 @@
 // A session, run at once, and what a user reads off it then. What a session is needed for stands here, and nothing else: each
 // statement of a function that holds one costs the proof as much as a small function.
-ghost use Rattle.std.specs.Prelude.{◌*◌, ◌≤◌, length};
-
-use batch::list::{NUMBERS, OCTETS, PACKETS, PLACES};
+use batch::list::List;
+use batch::replies::Answers;
 use double::whole::floor_u64;
-use encoding::check::is_ran;
 use examining::sitting::end_of;
 use lines::Opening;
 use model::session::Session;
@@ -24,13 +22,12 @@ pub(crate) struct Tuning {
 
 // What a run left.
 #[derive(Clone, Copy)]
-pub(crate) struct Left {
-    // 01's number of the refusal of the settings, or 0
-    pub(crate) refused: u64,
-    // the list was run
-    pub(crate) is_run: bool,
-    pub(crate) counted: End,
-    pub(crate) tuned: Tuning,
+pub(crate) enum Left {
+    // the settings were refused, by 01's number
+    Refused(u64),
+    // the calls had no room, and none was run
+    NotRun,
+    Ran { counted: End, tuned: Tuning },
 }
 
 fn tuned(s: Session) -> Tuning {
@@ -42,55 +39,34 @@ fn tuned(s: Session) -> Tuning {
 }
 
 fn read_off(r: Replayed) -> Left {
-    let answer = r.answer;
-    let outcome = r.outcome;
+    let refused = refusal(r.answer);
+    if refused != 0 {
+        return Left::Refused(refused);
+    }
+    if r.outcome.is_err() {
+        return Left::NotRun;
+    }
     let s = r.session;
-    Left {
-        refused: refusal(answer),
-        is_run: is_ran(outcome),
+    Left::Ran {
         counted: end_of(s),
         tuned: tuned(s),
     }
 }
 
-fn run_all(
-    o: Opening,
-    samples: &mut [f32; F32_PER_DATAGRAM],
-    calls: &[u64],
-    octets: &[u8; OCTETS],
-    numbers: &[u32; NUMBERS],
-    packets: &mut [u8; PACKETS],
-    places: &mut [f32; PLACES],
-    answers: &mut [u64],
-) -> Left {
-    let settings = o.settings;
-    read_off(replay(
-        settings, o.at, samples, calls, octets, numbers, packets, places, answers,
-    ))
-}
-
-// Runs the first n calls that are gathered, from a session just opened so. Their answers, packets and samples go to the lent buffers.
-pub(crate) fn run(
-    o: Opening,
-    n: usize,
-    calls: &[u64],
-    octets: &[u8; OCTETS],
-    numbers: &[u32; NUMBERS],
-    packets: &mut [u8; PACKETS],
-    places: &mut [f32; PLACES],
-    answers: &mut [u64],
-) -> Left
-    requires { (8 * n ≤ length calls.now) × (8 * n ≤ length answers.old) }
-{
+// Runs the calls that are gathered, from a session just opened so. Their answers, packets and samples go to the lent rooms.
+pub(crate) fn run(o: Opening, list: &List, answers: &mut Answers) -> Left {
     let mut samples = [0.0f32; F32_PER_DATAGRAM];
-    run_all(
-        o,
+    let end = 8 * list.calls;
+    let words = &mut answers.words[..];
+    read_off(replay(
+        o.settings,
+        o.at,
         &mut samples,
-        &calls[0..8 * n],
-        octets,
-        numbers,
-        packets,
-        places,
-        &mut answers[0..8 * n],
-    )
+        &list.words[..end],
+        &list.octets,
+        &list.numbers,
+        &mut answers.packets,
+        &mut answers.places,
+        &mut words[..end],
+    ))
 }

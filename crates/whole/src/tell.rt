@@ -1,46 +1,46 @@
 // What a session gave, once it is run, as lines of text.
-ghost use Rattle.std.specs.Prelude.{◌≤◌};
-
-use super::between::{Desk, too_long, written};
+use super::run::Sitting;
 use super::sessions::{Left, Tuning};
-use batch::list::{OCTETS, PACKETS, PLACES, WORDS};
+use batch::list::List;
+use batch::replies::Answers;
 use batch::{accounts, replies};
-use console::output::{Output, put};
-use console::pattern::filled;
+use console::output::Output;
+use desk::desk::{Desk, Request};
 
-fn put_tuned(out: &mut Output, at: usize, t: Tuning) -> usize {
-    filled(
-        out,
-        at,
+// A session that is longer than the rooms, told by the line of its `open`. Nothing more is read or run.
+pub(crate) fn too_long(d: &mut Desk, sitting: Sitting, out: &mut Output) {
+    out.filled(
+        b"error line #: there is no room for the calls of this session\n",
+        &[sitting.line],
+    );
+    d.asks = Request::Nothing;
+    d.is_over = true;
+}
+
+fn put_tuned(out: &mut Output, t: Tuning) {
+    out.filled(
         b"reads rate # centre # attenuation #\n",
         &[t.rate, t.centre, t.attenuation],
     )
 }
 
-// Of a session with n calls: that its settings are refused, that there is no room, or its answers, account and what is read off it.
+// That a session's settings are refused, that there is no room, or its answers, account and what is read off it.
 pub(crate) fn tell(
-    d: Desk,
-    n: usize,
+    d: &mut Desk,
+    sitting: Sitting,
     left: Left,
-    calls: &[u64; WORDS],
-    octets: &[u8; OCTETS],
-    packets: &[u8; PACKETS],
-    places: &[f32; PLACES],
-    answers: &[u64; WORDS],
+    list: &List,
+    answers: &Answers,
     out: &mut Output,
-) -> Desk
-    requires { n ≤ 1024 }
-{
-    let counted = left.counted;
-    let tuned = left.tuned;
-    if left.refused != 0 {
-        return written(d, filled(out, d.out, b"refused #\n", &[left.refused]));
+) {
+    match left {
+        Left::Refused(refused) => out.filled(b"refused #\n", &[refused]),
+        Left::NotRun => too_long(d, sitting, out),
+        Left::Ran { counted, tuned } => {
+            out.put(b"opened\n");
+            replies::tell(list, answers, out);
+            accounts::tell(list, answers, counted, out);
+            put_tuned(out, tuned)
+        }
     }
-    if !left.is_run {
-        return too_long(d, out);
-    }
-    let one = put(out, d.out, b"opened\n");
-    let two = replies::tell(n, calls, packets, places, answers, out, one);
-    let three = accounts::tell(n, calls, octets, answers, counted, out, two);
-    written(d, put_tuned(out, three, tuned))
 }

@@ -1,12 +1,12 @@
 -- The four command packets: named fields over zeros, in 01's order. Definitions only.
-use Rattle.std.specs.Prelude.{ℕ, min, Bool, cond, ◌≡◌, List, [], ◌∷◌, length, ltb}
+use Rattle.std.specs.Prelude.{⊤, ℕ, min, Bool, cond, ◌≡◌, List, [], ◌∷◌, length, ltb, Result, Ok, Err}
+use Rattle.wire.specs.declared.packet.PacketError.{PacketError}
+use Rattle.wire.specs.declared.packet.PacketError.TheVariants.{NoRoom}
 use Rattle.base.specs.Pick.{pick}
 use Rattle.octets.specs.Written.{written}
 use Rattle.octets.specs.Packet.{Field, field, packet}
 use Rattle.base.specs.Told.{Told, gives, refused}
 use Rattle.tuning.specs.declared.board.BoardInfo.{BoardInfo}
-use Rattle.wire.specs.declared.packet.PacketAnswer.{PacketAnswer}
-use Rattle.wire.specs.declared.packet.PacketAnswer.TheVariants.{Written, NoRoom}
 
 -- every command starts with its count
 abbrev pub count : ℕ → Field
@@ -41,11 +41,11 @@ high_fields seq run phase alex0 alex1 db =
 unfoldable pub high_packet : ℕ → Bool → ℕ → ℕ → ℕ → ℕ → List ℕ
 high_packet seq run phase alex0 alex1 db = packet 1444 (high_fields seq run phase alex0 alex1 db)
 
-abbrev pub packet_answer : PacketAnswer → Told
-packet_answer Written = gives []
-packet_answer NoRoom = refused 15 []
+abbrev pub packet_answer : Result ⊤ PacketError → Told
+packet_answer (Ok u) = gives []
+packet_answer (Err NoRoom) = refused 15 []
 
 -- out, of n octets, was to be written to the front of d, and e is what it then held: 15 where d is shorter, and d stays as it was
-pub record Sent (n : ℕ) (out d : List ℕ) (r : PacketAnswer) (e : List ℕ) : Type 0 where
+pub record Sent (n : ℕ) (out d : List ℕ) (r : Result ⊤ PacketError) (e : List ℕ) : Type 0 where
   pub answer : packet_answer r ≡ pick (ltb (length d) n) (refused 15 []) (gives [])
   pub holds : e ≡ pick (ltb (length d) n) d (written d 0 out)

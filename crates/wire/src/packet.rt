@@ -59,9 +59,9 @@ pub const HP_ALEX0: usize = 1432;
 
 pub const HP_STEP_ATTENUATOR_ADC0: usize = 1443;
 
+// Why a packet is not written: the buffer is shorter than it.
 #[derive(Clone, Copy)]
-pub enum PacketAnswer {
-    Written,
+pub enum PacketError {
     NoRoom,
 }
 
@@ -74,42 +74,47 @@ fn start(p: &mut [u8], n: usize, seq: u32)
     octets::put_u32(p, SEQ_OFFSET, seq);
 }
 
-pub fn general_packet(seq: u32, board: BoardInfo, out: &mut [u8]) -> PacketAnswer
+pub fn general_packet(seq: u32, board: BoardInfo, out: &mut [u8]) -> Result<(), PacketError>
     ensures { Sent 60 (general_packet seq board) out.old result out.new }
 {
     if out.len() < GENERAL_LEN {
-        return PacketAnswer::NoRoom;
+        return Err(PacketError::NoRoom);
     }
     start(out, GENERAL_LEN, seq);
     out[GENERAL_FREQ_MODE] = GENERAL_FREQ_MODE_PHASE_WORDS;
     out[GENERAL_WATCHDOG] = GENERAL_WATCHDOG_ON;
     out[GENERAL_FILTER_ENABLE] = board.filter_enable;
-    PacketAnswer::Written
+    Ok(())
 }
 
-pub fn rx_specific_packet(seq: u32, board: BoardInfo, khz: u16, out: &mut [u8]) -> PacketAnswer
+pub fn rx_specific_packet(
+    seq: u32,
+    board: BoardInfo,
+    khz: u16,
+    out: &mut [u8],
+) -> Result<(), PacketError>
     ensures { Sent 1444 (rx_packet seq board khz) out.old result out.new }
 {
     if out.len() < RX_SPECIFIC_LEN {
-        return PacketAnswer::NoRoom;
+        return Err(PacketError::NoRoom);
     }
     start(out, RX_SPECIFIC_LEN, seq);
     out[RX_ADC_COUNT] = board.adc_count;
     out[RX_DDC_ENABLE] = RX_DDC_ENABLE_DDC0;
     octets::put_u16(out, RX_DDC0_RATE, khz);
     out[RX_DDC0_BITS] = BITS_PER_SAMPLE as u8;
-    PacketAnswer::Written
+    Ok(())
 }
 
-pub fn tx_specific_packet(seq: u32, out: &mut [u8]) -> PacketAnswer
+pub fn tx_specific_packet(seq: u32, out: &mut [u8]) -> Result<(), PacketError>
     ensures { Sent 60 (tx_packet seq) out.old result out.new }
 {
     if out.len() < TX_SPECIFIC_LEN {
-        return PacketAnswer::NoRoom;
+        return Err(PacketError::NoRoom);
     }
     start(out, TX_SPECIFIC_LEN, seq);
     out[TX_DAC_COUNT] = TX_ONE_DAC;
-    PacketAnswer::Written
+    Ok(())
 }
 
 pub fn high_priority_packet(
@@ -120,11 +125,11 @@ pub fn high_priority_packet(
     alex1: u32,
     db: u8,
     out: &mut [u8],
-) -> PacketAnswer
+) -> Result<(), PacketError>
     ensures { Sent 1444 (high_packet seq run phase alex0 alex1 db) out.old result out.new }
 {
     if out.len() < HIGH_PRIORITY_LEN {
-        return PacketAnswer::NoRoom;
+        return Err(PacketError::NoRoom);
     }
     start(out, HIGH_PRIORITY_LEN, seq);
     out[HP_RUN] = if run { HP_RUN_BIT } else { 0 };
@@ -137,5 +142,5 @@ pub fn high_priority_packet(
     } else {
         MAX_STEP_ATTENUATION_DB
     };
-    PacketAnswer::Written
+    Ok(())
 }

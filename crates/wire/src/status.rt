@@ -9,20 +9,14 @@ pub const ADC0_OVERLOAD: u8 = 0x01;
 
 pub const STATUS_ADC_OVERLOAD: usize = 5;
 
-#[derive(Clone, Copy)]
-pub enum OverloadBits {
-    Bits(u8),
-    NoBits,
-}
-
 // Bit i is ADC i's.
-pub fn adc_overload_bits(buf: &[u8]) -> OverloadBits
+pub fn adc_overload_bits(buf: &[u8]) -> Option<u8>
     ensures { overload_answer result ≡ overload_told buf.now }
 {
     if buf.len() != STATUS_LEN {
-        return OverloadBits::NoBits;
+        return None;
     }
-    OverloadBits::Bits(buf[STATUS_ADC_OVERLOAD])
+    Some(buf[STATUS_ADC_OVERLOAD])
 }
 
 pub fn adc0_overload(bits: u8) -> bool

@@ -26,7 +26,6 @@ returns-then-is_p2 c =
 pub returns : goal.returns
 unfolding reply_told
 returns c =
-    c.no_reply.ensures
-    ∙ sym
+    sym
     (pick-f _ _ _ (sym c.is_p1.ensures ∙ c.if-is_p1.false)
     ∙ pick-f _ _ _ (sym c.is_p2.ensures ∙ c.if-is_p2.false))

@@ -16,46 +16,21 @@ abbrev sampled : List ℕ → ℕ → Float
 sampled buf k = sample_of (be_at 3 buf (16 + 3 * k))
 
 pub loop-i-init : goal.loop-i-init
-loop-i-init c = (omega arith, refl, tab-none _ _)
-
-pub overflow_sub-s24_after : goal.overflow_sub-s24_after
-overflow_sub-s24_after c = omega arith
-
-pub overflow_mul-i : goal.overflow_mul-i
-overflow_mul-i c = omega arith
-
-pub overflow_add-i : goal.overflow_add-i
-overflow_add-i c = omega arith
-
-pub s24_after-requires : goal.s24_after-requires
-s24_after-requires c = omega arith
-
-pub offset_bounds-out-i : goal.offset_bounds-out-i
-offset_bounds-out-i c = omega arith
-
-pub bounds-out-i : goal.bounds-out-i
-bounds-out-i c = omega arith
-
-pub overflow_add-i-in-loop-i : goal.overflow_add-i-in-loop-i
-overflow_add-i-in-loop-i c = omega arith
-
-pub loop-i-smaller : goal.loop-i-smaller
-loop-i-smaller c = omega arith
+loop-i-init c = (refl, tab-none _ _)
 
 pub loop-i-preserved : goal.loop-i-preserved
 loop-i-preserved c =
     let l = c.loop-i in
     let a = c.args in
     let e : 15 + 3 * l.i + 1 ≡ 16 + 3 * l.i = omega arith in (
-      omega arith,
-      simp length-set l.invariant.1,
-      ap (λ (x : List Float). set x l.i c.s24_after.result) l.invariant.2
+      simp length-set l.invariant.0,
+      ap (λ (x : List Float). set x l.i c.s24_after.result) l.invariant.1
           ∙ tab-more l.i (sampled a.buf.now) a.out.now c.s24_after.result nan (omega arith)
           (c.s24_after.ensures ∙ ap (λ (at : ℕ). sample_of (be_at 3 a.buf.now at)) e),
     )
 
 pub shape_of-out : goal.shape_of-out
-shape_of-out c = c.loop-i.invariant.1
+shape_of-out c = c.loop-i.invariant.0
 
 pub returns : goal.returns
 unfolding samples_of
@@ -63,6 +38,6 @@ returns c =
     let l = c.loop-i in
     let a = c.args in
     let e : l.i ≡ 476 = omega arith in
-    l.invariant.2
+    l.invariant.1
     ∙ ap (λ (k : ℕ). tab k (sampled a.buf.now) ++ drop k a.out.now) e
     ∙ sym (written-front a.out.now (samples_of a.buf.now) 476 (length-tab 476 (sampled a.buf.now)))

@@ -13,7 +13,4 @@ abbrev sampled : List ℕ → ℕ → Float
 sampled buf k = sample_of (be_at 3 buf (16 + 3 * k))
 
 abbrev pub invariant-loop-i : goal.invariant-loop-i
-invariant-loop-i l = (l.i ≤ 476) × (length l.out ≡ length l.initial.out) × (l.out ≡ tab l.i (sampled l.buf) ++ drop l.i l.initial.out)
-
-abbrev pub decreases-loop-i : goal.decreases-loop-i
-decreases-loop-i l = 476 - l.i
+invariant-loop-i l = (length l.out ≡ length l.initial.out) × (l.out ≡ tab l.i (sampled l.buf) ++ drop l.i l.initial.out)

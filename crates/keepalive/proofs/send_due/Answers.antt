@@ -19,6 +19,6 @@ tick_attenuation-requires c = left c.args.reading _ _ _ _ c.send_keepalive_if_du
 pub returns : goal.returns
 unfolding Sending.due_packets
 returns c = let a = c.args in
-    sends-then 1444 1 _ (λ (d : Common). Sending.tick a.reading d.attenuator.attenuation d) _ _ _ _ _ _ (tick-within _ _ _)
+    sends-then 1444 1 _ (λ (d : Common). Sending.tick a.reading d.attenuation d) _ _ _ _ _ _ (tick-within _ _ _)
     (left c.args.reading _ _ _ _ c.send_keepalive_if_due-kept.ensures c.send_keepalive_if_due-kept.auto.packets c.requires) c.send_keepalive_if_due-kept.auto.packets c.send_keepalive_if_due-kept.ensures
     c.tick_attenuation.ensures

@@ -1,18 +1,19 @@
 -- `keepalive::tick_attenuation` meets its contract. Assumes nothing.
+use Rattle.std.specs.Prelude.{Option}
+use Rattle.attenuator.specs.declared.Controller.{Controller}
 use mathlib.Core.Path.{ap, sym, ◌∙◌}
-use Rattle.attenuator.specs.declared.Stepped.{Stepped}
+use Rattle.attenuator.specs.Controller.{Stepped}
 use Rattle.model.specs.Sending as Sending
-use Rattle.model.specs.declared.session.Attenuation.{Attenuation}
 use Rattle.sending.proofs.Progresses.{sends-as, sends_none}
 use Rattle.keepalive.proofs.tick_attenuation.Goals as goal
 
 pub returns-in_default : goal.returns-in_default
 unfolding Sending.tick
-returns-in_default c = let a = c.args in sends-as (Sending.idle a.p.common) _ a.p _ _ _ (ap (λ (x : Attenuation). Sending.tick a.reading x a.p.common) (sym c.in_default.is)) (sends_none a.p _)
+returns-in_default c = let a = c.args in sends-as (Sending.idle a.p.common) _ a.p _ _ _ (ap (λ (x : Option Controller). Sending.tick a.reading x a.p.common) (sym c.in_default.is)) (sends_none a.p _)
 
 pub returns : goal.returns
 unfolding Sending.tick
 returns c = let a = c.args in
     sends-as _ _ a.p _ _ _
-    (ap (λ (x : Stepped). Sending.stepped a.reading x a.p.common) c.tick-stepped.ensures
-    ∙ ap (λ (x : Attenuation). Sending.tick a.reading x a.p.common) (sym c.in-On.is)) c.apply_step.ensures
+    (ap (λ (x : Stepped). Sending.stepped a.reading x a.p.common) c.tick-step.ensures
+    ∙ ap (λ (x : Option Controller). Sending.tick a.reading x a.p.common) (sym c.in-Some.is)) c.apply_step.ensures

@@ -1,10 +1,6 @@
 -- `octets::is_zero` meets its contract: the loop's invariant is that all octets passed are 0. Assumes nothing.
-use Prim.Native.Nat.{◌-◌, ◌≤◌}
 use Rattle.octets.specs.Packet.{Zero}
 use Rattle.octets.proofs.is_zero.Given as goal
 
 abbrev pub invariant-loop-i : goal.invariant-loop-i
-invariant-loop-i l = (l.from ≤ l.i) × Zero l.p l.from l.i
-
-abbrev pub decreases-loop-i : goal.decreases-loop-i
-decreases-loop-i l = l.to - l.i
+invariant-loop-i l = Zero l.p l.from l.i

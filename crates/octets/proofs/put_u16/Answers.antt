@@ -1,11 +1,14 @@
--- `octets::put_u16` writes the 2 octets of v: its stores are those of one law over the width. Assumes nothing.
-use lib.ListN.{length-set}
-use native.Mathlib.Omega.{arith}
-use Rattle.octets.proofs.Numbers.{stores-be}
+-- `octets::put_u16` writes the 2 octets of v as std has them, big-endian. Assumes nothing.
+use borrow.Rule.Slice.PartMut.{put_mid}
+use native.Mathlib.Nat.{div-one}
+use Rattle.std.specs.Prelude.{ℕ, ◌+◌, ◌-◌, ◌/◌, ◌%◌, ◌≡◌, List, [], ◌∷◌, drop}
+use Rattle.std.proofs.Common.{ap, sym, ◌∙◌, arith}
+use Rattle.octets.specs.Number.{be}
+use Rattle.octets.proofs.Writes.{part-written}
 use Rattle.octets.proofs.put_u16.Goals as goal
 
-pub bounds-p-at-2 : goal.bounds-p-at-2
-bounds-p-at-2 c = simp length-set (omega arith)
-
 pub returns : goal.returns
-returns c = stores-be 1 c.args.v c.args.p.now c.args.at c.requires
+returns c =
+    let a = c.args in
+    let same : c.copy_from_slice.new.self ≡ be 2 a.v = c.copy_from_slice.ensures.after ∙ c.to_be_bytes.ensures ∙ ap (λ (n : ℕ). a.v / 256 % 256 ∷ n % 256 ∷ []) (sym (div-one a.v)) in
+    ap (put_mid a.at (a.at + 2 - a.at) a.p.now) same ∙ part-written a.p.now (be 2 a.v) a.at (a.at + 2 - a.at) (omega arith)

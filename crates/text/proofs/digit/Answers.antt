@@ -1,33 +1,34 @@
--- `text::digit` gives a digit its value: the tests are those of the definition. Assumes nothing.
-use borrow.Author.Tests.{lt-ltb, le-ltb}
+-- `text::digit` gives a digit its value: the ranges are those of the definition. Assumes nothing.
+use native.Mathlib.Omega.{arith}
+use Rattle.std.proofs.lemmas.Grind.{common_steps}
+use Rattle.std.proofs.lemmas.Bool.Decides.{nat_tests}
 use Rattle.text.specs.Number.{digit_of}
-use borrow.Author.Rules.{rules}
 use Rattle.text.proofs.digit.Goals as goal
 
-pub returns-then-n-lt48 : goal.returns-then-n-lt48
+pub returns-in-48-to-57 : goal.returns-in-48-to-57
 unfolding digit_of
-returns-then-n-lt48 c = (simp (lt-ltb _ _ c.if-n-lt48.true), search rules)
+returns-in-48-to-57 c = grind (arith, common_steps, nat_tests)
 
-pub returns-then-n-lt58 : goal.returns-then-n-lt58
+pub returns-in-65-to-70 : goal.returns-in-65-to-70
 unfolding digit_of
-returns-then-n-lt58 c = (simp (le-ltb _ _ c.if-n-lt48.false, lt-ltb _ _ c.if-n-lt58.true), search rules)
+returns-in-65-to-70 c = grind (arith, common_steps, nat_tests)
 
-pub returns-then-n-lt65 : goal.returns-then-n-lt65
+pub returns-in-97-to-102 : goal.returns-in-97-to-102
 unfolding digit_of
-returns-then-n-lt65 c = (simp (le-ltb _ _ c.if-n-lt48.false, le-ltb _ _ c.if-n-lt58.false, lt-ltb _ _ c.if-n-lt65.true), search rules)
+returns-in-97-to-102 c = grind (arith, common_steps, nat_tests)
 
-pub returns-then-n-lt71 : goal.returns-then-n-lt71
+pub returns-in_default : goal.returns-in_default
 unfolding digit_of
-returns-then-n-lt71 c = (simp (le-ltb _ _ c.if-n-lt48.false, le-ltb _ _ c.if-n-lt58.false, le-ltb _ _ c.if-n-lt65.false, lt-ltb _ _ c.if-n-lt71.true), search rules)
+returns-in_default c = grind (arith, common_steps, nat_tests)
 
-pub returns-then-n-lt97 : goal.returns-then-n-lt97
+pub returns-in_default-2 : goal.returns-in_default-2
 unfolding digit_of
-returns-then-n-lt97 c = (simp (le-ltb _ _ c.if-n-lt48.false, le-ltb _ _ c.if-n-lt58.false, le-ltb _ _ c.if-n-lt65.false, le-ltb _ _ c.if-n-lt71.false, lt-ltb _ _ c.if-n-lt97.true), search rules)
+returns-in_default-2 c = grind (arith, common_steps, nat_tests)
 
-pub returns-then-n-lt103 : goal.returns-then-n-lt103
+pub returns-in_default-3 : goal.returns-in_default-3
 unfolding digit_of
-returns-then-n-lt103 c = (simp (le-ltb _ _ c.if-n-lt48.false, le-ltb _ _ c.if-n-lt58.false, le-ltb _ _ c.if-n-lt65.false, le-ltb _ _ c.if-n-lt71.false, le-ltb _ _ c.if-n-lt97.false, lt-ltb _ _ c.if-n-lt103.true), search rules)
+returns-in_default-3 c = grind (arith, common_steps, nat_tests)
 
-pub returns : goal.returns
+pub returns-in_default-4 : goal.returns-in_default-4
 unfolding digit_of
-returns c = (simp (le-ltb _ _ c.if-n-lt48.false, le-ltb _ _ c.if-n-lt58.false, le-ltb _ _ c.if-n-lt65.false, le-ltb _ _ c.if-n-lt71.false, le-ltb _ _ c.if-n-lt97.false, le-ltb _ _ c.if-n-lt103.false), search rules)
+returns-in_default-4 c = grind (arith, common_steps, nat_tests)

@@ -4,8 +4,8 @@ use lib.ListN.{length}
 use Rattle.text.proofs.Names.{Sought}
 use Rattle.text.proofs.place_of.Given as goal
 
-abbrev pub invariant-loop-at : goal.invariant-loop-at
-invariant-loop-at l = Sought l.w l.names l.at l.k
+abbrev pub invariant-loop-w : goal.invariant-loop-w
+invariant-loop-w l = Sought l.w l.names l.at l.k
 
-abbrev pub decreases-loop-at : goal.decreases-loop-at
-decreases-loop-at l = length l.names - l.at
+abbrev pub decreases-loop-w : goal.decreases-loop-w
+decreases-loop-w l = length l.names - l.at

@@ -12,5 +12,5 @@ apply_step-sent-requires c = start-room 1444 1 c.args.s.common _ _ c.start.ensur
 
 pub returns : goal.returns
 returns c = let a = c.args in
-    gives-wrote (Sending.stepped a.later a.made) a.s.common _ a.packets.now _ _ c.start.ensures
-    (omega (arith, (stepped_within a.later a.made a.s.common).streams)) c.apply_step-sent.ensures (done status) a.s _ refl
+    gives-wrote (Sending.stepped a.later (record { step = a.step; controller = a.controller })) a.s.common _ a.packets.now _ _ c.start.ensures
+    (omega (arith, (stepped_within a.later (record { step = a.step; controller = a.controller }) a.s.common).streams)) c.apply_step-sent.ensures (done status) a.s _ refl

@@ -1,7 +1,8 @@
 -- `attenuator::Controller::run_at` meets its contract: a new run where none was heard or the hold has lapsed, else the old one's start.
 -- Assumes nothing.
+use Rattle.std.specs.Prelude.{Some, None}
+use mathlib.Core.Path.{◌∙◌}
 use native.Mathlib.Omega.{arith}
-use Rattle.attenuator.specs.declared.Moment.TheVariants.{Never, At}
 use Rattle.attenuator.proofs.Runs.{first-overload, lapsed, goes_on}
 use Rattle.attenuator.proofs.Controller.run_at.Goals as goal
 
@@ -13,15 +14,9 @@ returns-in_default c =
 pub returns-then-since-self : goal.returns-then-since-self
 returns-then-since-self c =
     let a = c.args in
-    lapsed a.self a.now c.in-At.last c.in-At.is (omega (arith, c.since.ensures))
-
-pub returns-in_default-run_start : goal.returns-in_default-run_start
-returns-in_default-run_start c =
-    let a = c.args in
-    goes_on a.self a.now c.in-At.last c.in-At.is Never c.in_default-run_start.is (omega (arith, c.since.ensures))
+    lapsed a.self a.now c.in-Some.last c.in-Some.is (omega (arith, c.since.ensures))
 
 pub returns : goal.returns
 returns c =
     let a = c.args in
-    goes_on a.self a.now c.in-At.last c.in-At.is (At c.in-At-run_start.start) c.in-At-run_start.is
-    (omega (arith, c.since.ensures))
+    c.unwrap_or.ensures ∙ goes_on a.self a.now c.in-Some.last c.in-Some.is (omega (arith, c.since.ensures))

@@ -6,7 +6,7 @@ use Rattle.double.proofs.parts.split.Goals as goal
 pub returns-then-k-lt1020 : goal.returns-then-k-lt1020
 returns-then-k-lt1020 c =
     let a = c.apart-p in
-    split-tiny c.args.x a.result.negative a.result.digits a.result.scale c.one_if_any.result a.ensures c.if-k-lt1020.true c.one_if_any.ensures
+    split-tiny c.args.x a.result.negative a.result.digits a.result.scale c.min.result a.ensures c.if-k-lt1020.true c.min.ensures
 
 pub nonzero_div-result : goal.nonzero_div-result
 nonzero_div-result c = unit-pos c.apart-p.result.scale (omega arith) (omega arith)

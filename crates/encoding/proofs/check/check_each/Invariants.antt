@@ -7,7 +7,4 @@ use Rattle.encoding.proofs.check.check_each.Given as goal
 
 abbrev pub invariant-loop-i : goal.invariant-loop-i
 invariant-loop-i l =
-    (l.i ≤ l.n) × Within l.taken l.room × (check_from l.calls l.room (l.n - l.i) l.i l.taken ≡ check_from l.calls l.room l.n 0 nothing)
-
-abbrev pub decreases-loop-i : goal.decreases-loop-i
-decreases-loop-i l = l.n - l.i
+    Within l.taken l.room × (check_from l.calls l.room (l.n - l.i) l.i l.taken ≡ check_from l.calls l.room l.n 0 nothing)

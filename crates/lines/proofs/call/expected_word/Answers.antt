@@ -1,30 +1,27 @@
 -- `lines::call::expected_word` names what a word was to be. Assumes nothing.
-use mathlib.Core.Path.{sym, ◌∙◌}
-use borrow.Author.Tests.{eq-eqb, ne_eqb}
-use Rattle.base.proofs.Picks.{pick-t, pick-f}
 use Rattle.lines.specs.Call.{expected_word}
 use Rattle.lines.proofs.call.expected_word.Goals as goal
 
-pub returns-then-t-eq-READING : goal.returns-then-t-eq-READING
+pub returns-in-Reading : goal.returns-in-Reading
 unfolding expected_word
-returns-then-t-eq-READING c = sym (pick-t _ _ _ (eq-eqb _ _ c.if-t-eq-READING.true))
+returns-in-Reading c = rw c.in-Reading.is
 
-pub returns-then-t-eq-NUMBER : goal.returns-then-t-eq-NUMBER
+pub returns-in-Number : goal.returns-in-Number
 unfolding expected_word
-returns-then-t-eq-NUMBER c = sym (pick-f _ _ _ (ne_eqb _ _ c.if-t-eq-READING.false) ∙ pick-t _ _ _ (eq-eqb _ _ c.if-t-eq-NUMBER.true))
+returns-in-Number c = rw c.in-Number.is
 
-pub returns-then-t-eq-OCTET : goal.returns-then-t-eq-OCTET
+pub returns-in-Octet : goal.returns-in-Octet
 unfolding expected_word
-returns-then-t-eq-OCTET c = sym (pick-f _ _ _ (ne_eqb _ _ c.if-t-eq-READING.false) ∙ pick-f _ _ _ (ne_eqb _ _ c.if-t-eq-NUMBER.false) ∙ pick-t _ _ _ (eq-eqb _ _ c.if-t-eq-OCTET.true))
+returns-in-Octet c = rw c.in-Octet.is
 
-pub returns-then-t-eq-PLACES : goal.returns-then-t-eq-PLACES
+pub returns-in-Places : goal.returns-in-Places
 unfolding expected_word
-returns-then-t-eq-PLACES c = sym (pick-f _ _ _ (ne_eqb _ _ c.if-t-eq-READING.false) ∙ pick-f _ _ _ (ne_eqb _ _ c.if-t-eq-NUMBER.false) ∙ pick-f _ _ _ (ne_eqb _ _ c.if-t-eq-OCTET.false) ∙ pick-t _ _ _ (eq-eqb _ _ c.if-t-eq-PLACES.true))
+returns-in-Places c = rw c.in-Places.is
 
-pub returns-then-t-eq-SENDER : goal.returns-then-t-eq-SENDER
+pub returns-in-Sender : goal.returns-in-Sender
 unfolding expected_word
-returns-then-t-eq-SENDER c = sym (pick-f _ _ _ (ne_eqb _ _ c.if-t-eq-READING.false) ∙ pick-f _ _ _ (ne_eqb _ _ c.if-t-eq-NUMBER.false) ∙ pick-f _ _ _ (ne_eqb _ _ c.if-t-eq-OCTET.false) ∙ pick-f _ _ _ (ne_eqb _ _ c.if-t-eq-PLACES.false) ∙ pick-t _ _ _ (eq-eqb _ _ c.if-t-eq-SENDER.true))
+returns-in-Sender c = rw c.in-Sender.is
 
-pub returns : goal.returns
+pub returns-in-Octets : goal.returns-in-Octets
 unfolding expected_word
-returns c = sym (pick-f _ _ _ (ne_eqb _ _ c.if-t-eq-READING.false) ∙ pick-f _ _ _ (ne_eqb _ _ c.if-t-eq-NUMBER.false) ∙ pick-f _ _ _ (ne_eqb _ _ c.if-t-eq-OCTET.false) ∙ pick-f _ _ _ (ne_eqb _ _ c.if-t-eq-PLACES.false) ∙ pick-f _ _ _ (ne_eqb _ _ c.if-t-eq-SENDER.false))
+returns-in-Octets c = rw c.in-Octets.is

@@ -1,13 +1,15 @@
 -- `lines::option::attenuation` is the word's place among the three. Assumes nothing.
-use Prim.Native.Nat.{ℕ}
-use mathlib.Core.Path.{ap, ◌∙◌}
-use Rattle.text.specs.Name.{place}
-use Rattle.text.specs.declared.Spelt.TheVariants.{Number}
-use Rattle.values.specs.Value.{up_to}
-use Rattle.lines.specs.Option.{attenuation}
-use Rattle.lines.proofs.Names.{attenuation-names}
+use mathlib.Core.Path.{◌≡◌, sym, ap, ◌∙◌}
+use borrow.Author.Rules.{rules}
+use Rattle.std.specs.Prelude.{None}
+use Rattle.text.specs.Name.{found}
+use Rattle.lines.proofs.Names.{attenuation-names, attenuation-found, no-attenuation}
 use Rattle.lines.proofs.option.attenuation.Goals as goal
 
+pub returns-in_err-place : goal.returns-in_err-place
+returns-in_err-place c =
+    let e : c.from_residual.result ≡ None = search rules in
+    e ∙ no-attenuation _ (sym (c.place_of.ensures ∙ ap (found c.args.w.now) attenuation-names) ∙ c.in_err-place.was)
+
 pub returns : goal.returns
-unfolding attenuation
-returns c = c.up_to.ensures ∙ ap (λ (n : ℕ). up_to 2 (Number n)) (c.place_of-place.ensures ∙ ap (place c.args.w.now) attenuation-names)
+returns c = attenuation-found _ _ (sym (c.place_of.ensures ∙ ap (found c.args.w.now) attenuation-names) ∙ c.in_ok-place.was)

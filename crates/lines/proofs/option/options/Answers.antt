@@ -1,5 +1,6 @@
 -- `lines::option::options` takes the words one by one. Assumes nothing.
-use Rattle.lines.proofs.Options.{running, no_more, no-rest, stops-unknown, stops-there, stops-unread, stops-at-value, goes_on}
+use Rattle.lines.proofs.Options.{running, no_more, no-rest, stops-there, stops-untaken, goes_on, why, was-taken}
+use mathlib.Core.Path.{sym, ◌∙◌}
 use borrow.Author.Rules.{rules}
 use Rattle.lines.proofs.option.options.Goals as goal
 
@@ -10,10 +11,9 @@ pub returns-then-from_word-end : goal.returns-then-from_word-end
 returns-then-from_word-end c = (no_more _ _ _ _ _ _ _ _ _ c.loop-start.invariant _ _ c.word_at-word.ensures c.if-from_word-end.true, no-rest _ _ _ _ _ _ _ _ _ c.loop-start.invariant _ _ c.word_at-word.ensures c.if-from_word-end.true)
 
 pub loop-start-preserved : goal.loop-start-preserved
-loop-start-preserved c = goes_on _ _ _ _ _ _ _ _ _ c.loop-start.invariant _ _ c.word_at-word.ensures c.if-from_word-end.false _ _ _ c.take_option-took.ensures c.in-Taken.is c.take_option-took.auto.values c.take_option-took.auto.numbers
+loop-start-preserved c = goes_on _ _ _ _ _ _ _ _ _ c.loop-start.invariant _ _ c.word_at-word.ensures c.if-from_word-end.false _ _ _ c.take_option-took.ensures (was-taken c.take_option-took.result (sym c.is_err.ensures.value ∙ c.if-is_err.false)) c.take_option-took.auto.values c.take_option-took.auto.numbers
 
-pub returns-in-Unknown : goal.returns-in-Unknown
-returns-in-Unknown c = (stops-unknown _ _ _ _ _ _ _ _ _ c.loop-start.invariant _ _ c.word_at-word.ensures c.if-from_word-end.false _ _ _ c.take_option-took.ensures c.in-Unknown.is, stops-there _ _ _ _ _ _ _ _ _ c.loop-start.invariant _ _ c.word_at-word.ensures c.if-from_word-end.false _ _ _ c.take_option-took.ensures c.in-Unknown.is)
-
-pub returns-in-Unreadable : goal.returns-in-Unreadable
-returns-in-Unreadable c = (stops-unread _ _ _ _ _ _ _ _ _ c.loop-start.invariant _ _ c.word_at-word.ensures c.if-from_word-end.false _ _ _ c.take_option-took.ensures _ c.in-Unreadable.is, stops-at-value _ _ _ _ _ _ _ _ _ c.loop-start.invariant _ _ c.word_at-word.ensures c.if-from_word-end.false _ _ _ c.take_option-took.ensures _ c.in-Unreadable.is)
+pub returns-then-is_err : goal.returns-then-is_err
+returns-then-is_err c =
+    let k = why c.take_option-took.result (sym c.is_err.ensures.value ∙ c.if-is_err.true) in
+    (stops-untaken _ _ _ _ _ _ _ _ _ c.loop-start.invariant _ _ c.word_at-word.ensures c.if-from_word-end.false _ _ _ c.take_option-took.ensures k.0 k.1, stops-there _ _ _ _ _ _ _ _ _ c.loop-start.invariant _ _ c.word_at-word.ensures c.if-from_word-end.false _ _ _ c.take_option-took.ensures k.0 k.1)

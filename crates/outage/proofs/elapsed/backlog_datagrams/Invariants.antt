@@ -6,9 +6,6 @@ use Rattle.double.specs.Whole.{most}
 use Rattle.model.specs.Rules.{backlog}
 use Rattle.outage.proofs.elapsed.backlog_datagrams.Given as goal
 
-abbrev pub invariant-loop-i : goal.invariant-loop-i
-invariant-loop-i l =
-    (l.i ≤ length l.waiting) × (l.total ≤ most) × (min (l.total + backlog l.plausible l.copy (drop l.i l.waiting)) most ≡ min (backlog l.plausible l.initial.copy l.waiting) most)
-
-abbrev pub decreases-loop-i : goal.decreases-loop-i
-decreases-loop-i l = length l.waiting - l.i
+abbrev pub invariant-loop-seq : goal.invariant-loop-seq
+invariant-loop-seq l =
+    (l.total ≤ most) × (min (l.total + backlog l.plausible l.copy (drop l.seq-index l.waiting)) most ≡ min (backlog l.plausible l.initial.copy l.waiting) most)

@@ -2,10 +2,10 @@
 use Rattle.model.specs.Rules.{added}
 use Rattle.outage.proofs.pending.add_pending.Goals as goal
 
-pub returns-in-Empty : goal.returns-in-Empty
+pub returns-in-None : goal.returns-in-None
 unfolding added
-returns-in-Empty c = simp c.in-Empty.is
+returns-in-None c = simp c.in-None.is
 
-pub returns-in-Holds : goal.returns-in-Holds
+pub returns-in-Some : goal.returns-in-Some
 unfolding added
-returns-in-Holds c = simp (c.in-Holds.is, c.saturating_add.ensures)
+returns-in-Some c = simp (c.in-Some.is, c.saturating_add.ensures)

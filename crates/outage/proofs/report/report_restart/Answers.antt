@@ -4,6 +4,7 @@ use Prim.Native.Nat.{ℕ}
 use Rattle.sequence.specs.declared.SeqEvent.TheVariants.{Restart}
 use Rattle.model.specs.Rules.{pending_after}
 use Rattle.model.specs.Hearing.{counted}
+use Rattle.model.specs.Parts.{with_discontinuity}
 use Rattle.outage.specs.Report.{report_of}
 use Rattle.outage.proofs.Reports.{reported}
 use Rattle.outage.proofs.report.report_restart.Goals as goal
@@ -11,5 +12,5 @@ use Rattle.outage.proofs.report.report_restart.Goals as goal
 pub returns : goal.returns
 unfolding pending_after counted
 returns c = let a = c.args in
-    reported a.rate Restart c.restart_missing-missing.result a.pending a.health _ _ c.add_discontinuity.ensures c.record_gap.ensures
+    reported a.rate Restart c.restart_missing-missing.result a.pending a.health _ _ (ap (with_discontinuity a.pending) c.add_pending.ensures) c.record_gap.ensures
     ∙ ap (λ (m : ℕ). report_of a.rate Restart m a.pending a.health) c.restart_missing-missing.ensures

@@ -2,10 +2,10 @@
 use Rattle.model.specs.Rules as Rules
 use Rattle.outage.proofs.window.refilled.Goals as goal
 
-pub returns-in-Shut : goal.returns-in-Shut
+pub returns-in-None : goal.returns-in-None
 unfolding Rules.refilled
-returns-in-Shut c = simp c.in-Shut.is
+returns-in-None c = simp c.in-None.is
 
-pub returns-in-Open : goal.returns-in-Open
+pub returns-in-Some : goal.returns-in-Some
 unfolding Rules.refilled
-returns-in-Open c = simp c.in-Open.is
+returns-in-Some c = simp c.in-Some.is

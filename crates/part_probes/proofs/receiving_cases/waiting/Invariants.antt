@@ -1,11 +1,8 @@
--- `part_probes::receiving_cases::waiting`: the numbers before i are read, and each turn starts in p. Assumes nothing.
+-- `part_probes::receiving_cases::waiting`: each turn starts in p, and the numbers' room keeps its length. Assumes nothing.
 use mathlib.Core.Path.{◌≡◌}
-use Prim.Native.Nat.{◌-◌, ◌≤◌}
+use Prim.Native.Nat.{◌≤◌}
 use lib.ListN.{length}
 use Rattle.part_probes.proofs.receiving_cases.waiting.Given as goal
 
 abbrev pub invariant-loop-i : goal.invariant-loop-i
-invariant-loop-i l = (l.i ≤ length l.initial.out) × (l.at ≤ length l.p) × (length l.out ≡ length l.initial.out)
-
-abbrev pub decreases-loop-i : goal.decreases-loop-i
-decreases-loop-i l = length l.initial.out - l.i
+invariant-loop-i l = (l.at ≤ length l.p) × (length l.out ≡ length l.initial.out)

@@ -7,10 +7,7 @@ use Rattle.radio.specs.Listen.{cut, received}
 use Rattle.radio.proofs.Listens.{onward}
 use Rattle.radio.proofs.listen.read_commands.Given as goal
 
-abbrev pub invariant-loop-i : goal.invariant-loop-i
-invariant-loop-i l =
-    (l.n ≡ length l.offsets) × (l.i ≤ l.n) × (l.at ≤ length l.packets) × (l.accepted ≤ l.i)
-    × (onward l.initial.next 0 (received l.initial.next (cut l.offsets l.packets)) ≡ onward l.next l.accepted (received l.next (cut (drop l.i l.offsets) (drop l.at l.packets))))
-
-abbrev pub decreases-loop-i : goal.decreases-loop-i
-decreases-loop-i l = l.n - l.i
+abbrev pub invariant-loop-offset : goal.invariant-loop-offset
+invariant-loop-offset l =
+    (l.at ≤ length l.packets) × (l.accepted ≤ l.offset-index)
+    × (onward l.initial.next 0 (received l.initial.next (cut l.offsets l.packets)) ≡ onward l.next l.accepted (received l.next (cut (drop l.offset-index l.offsets) (drop l.at l.packets))))

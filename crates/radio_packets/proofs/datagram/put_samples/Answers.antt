@@ -13,44 +13,22 @@ use Rattle.radio_packets.proofs.Datagrams.{samples-none, samples-more}
 use Rattle.radio_packets.proofs.datagram.put_samples.Goals as goal
 
 pub loop-i-init : goal.loop-i-init
-loop-i-init c = (omega arith, refl, samples-none c.args.out.now c.args.samples.now)
-
-pub overflow_mul-i : goal.overflow_mul-i
-overflow_mul-i c = omega arith
-
-pub overflow_add-i : goal.overflow_add-i
-overflow_add-i c = omega arith
-
-pub bounds-samples-i : goal.bounds-samples-i
-bounds-samples-i c = omega arith
+loop-i-init c = (refl, samples-none c.args.out.now c.args.samples.now)
 
 pub bits_of-requires : goal.bits_of-requires
 bits_of-requires c =
     let s = c.args.samples.now in
     ranged (get_or s c.loop-i.i (pos 0)) (search rules) (all-at s c.loop-i.i (pos 0) (omega (arith, c.requires.1)) c.requires.2)
 
-pub put_u24-requires : goal.put_u24-requires
-put_u24-requires c = omega arith
-
-pub overflow_add-i-in-loop-i : goal.overflow_add-i-in-loop-i
-overflow_add-i-in-loop-i c = omega arith
-
-pub loop-i-smaller : goal.loop-i-smaller
-loop-i-smaller c = omega arith
-
 pub loop-i-preserved : goal.loop-i-preserved
 loop-i-preserved c =
     let s = c.args.samples.now in
     let i = c.loop-i.i in (
       omega arith,
-      omega arith,
-      samples-more c.args.out.now c.loop-i.out c.put_u24.new.p s i c.bits_of.result (pos 0) (omega (arith, c.requires.1)) (omega (arith, c.requires.0, c.requires.1)) c.loop-i.invariant.2
+      samples-more c.args.out.now c.loop-i.out c.put_u24.new.p s i c.bits_of.result (pos 0) (omega (arith, c.requires.1)) (omega (arith, c.requires.0, c.requires.1)) c.loop-i.invariant.1
           (copied (get_or s i (pos 0)) (search rules) c.bits_of.ensures) c.put_u24.ensures,
     )
 
-pub shape_of-out : goal.shape_of-out
-shape_of-out c = omega arith
-
 pub returns : goal.returns
 returns c =
-    c.loop-i.invariant.2 ∙ ap (λ (m : List ℤ). written c.args.out.now 16 (octets_of m)) (take_all c.loop-i.i c.args.samples.now (omega (arith, c.requires.1)))
+    c.loop-i.invariant.1 ∙ ap (λ (m : List ℤ). written c.args.out.now 16 (octets_of m)) (take_all c.loop-i.i c.args.samples.now (omega (arith, c.requires.1)))

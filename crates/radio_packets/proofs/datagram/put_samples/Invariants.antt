@@ -7,7 +7,4 @@ use Rattle.radio_packets.specs.Iq.{octets_of}
 use Rattle.radio_packets.proofs.datagram.put_samples.Given as goal
 
 abbrev pub invariant-loop-i : goal.invariant-loop-i
-invariant-loop-i l = (l.i ≤ 476) × (length l.out ≡ length l.initial.out) × (l.out ≡ written l.initial.out 16 (octets_of (take l.i l.samples)))
-
-abbrev pub decreases-loop-i : goal.decreases-loop-i
-decreases-loop-i l = 476 - l.i
+invariant-loop-i l = (length l.out ≡ length l.initial.out) × (l.out ≡ written l.initial.out 16 (octets_of (take l.i l.samples)))

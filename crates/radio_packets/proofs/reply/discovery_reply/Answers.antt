@@ -1,22 +1,22 @@
 -- `radio_packets::reply::discovery_reply` meets its contract: refused by what it is, or as `put_reply` left it. Assumes nothing.
+use Rattle.std.specs.Prelude.{Err}
+use Rattle.radio_packets.specs.declared.answer.WriteError.TheVariants.{Value}
 use mathlib.Core.Path.{refl}
 use mathlib.Core.Bool.{true}
 use mathlib.Core.List.{[]}
-use Rattle.radio_packets.specs.declared.answer.WriteAnswer.TheVariants.{Value}
 use Rattle.radio_packets.proofs.Wrotes.{wrote-bad}
-use Rattle.radio_packets.proofs.Replies.{as-told}
+use Rattle.radio_packets.proofs.Replies.{as-told, as-given}
 use Rattle.radio_packets.proofs.reply.discovery_reply.Goals as goal
+
+pub returns-in_default : goal.returns-in_default
+returns-in_default c =
+    let d = c.args.out.now in
+    as-told d d (Err Value) c.in_default.is (wrote-bad true 60 [] d refl)
 
 pub returns-in-Protocol1 : goal.returns-in-Protocol1
 returns-in-Protocol1 c =
-    let a = c.args in
-    as-told a.reply.mac a.out.now a.out.now Value c.in-Protocol1.is (wrote-bad true 60 [] a.out.now refl)
+    let d = c.args.out.now in
+    as-given c.in-Some.r d d (Err Value) c.in-Some.is c.in-Protocol1.is (wrote-bad true 60 [] d refl)
 
 pub returns-in-Protocol2 : goal.returns-in-Protocol2
-returns-in-Protocol2 c =
-    as-told c.args.reply.mac _ _ _ c.in-Protocol2.is c.put_reply.ensures
-
-pub returns-in-NoReply : goal.returns-in-NoReply
-returns-in-NoReply c =
-    let a = c.args in
-    as-told a.reply.mac a.out.now a.out.now Value c.in-NoReply.is (wrote-bad true 60 [] a.out.now refl)
+returns-in-Protocol2 c = as-given c.in-Some.r _ _ _ c.in-Some.is c.in-Protocol2.is c.put_reply.ensures

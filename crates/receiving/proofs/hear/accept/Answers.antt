@@ -2,4 +2,4 @@
 use Rattle.receiving.proofs.hear.accept.Goals as goal
 
 pub returns : goal.returns
-returns c = simp c.used-after.ensures
+returns c = simp c.used-next.ensures

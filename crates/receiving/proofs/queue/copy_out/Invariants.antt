@@ -9,7 +9,4 @@ use Rattle.receiving.proofs.queue.copy_out.Given as goal
 
 abbrev pub invariant-loop-i : goal.invariant-loop-i
 invariant-loop-i l =
-    (l.i ≤ l.count) × (length l.out ≡ length l.initial.out) × (l.out ≡ tab l.i (λ (k : ℕ). get_or l.q (l.from + k) nan) ++ drop l.i l.initial.out)
-
-abbrev pub decreases-loop-i : goal.decreases-loop-i
-decreases-loop-i l = l.count - l.i
+    (length l.out ≡ length l.initial.out) × (l.out ≡ tab l.i (λ (k : ℕ). get_or l.q (l.from + k) nan) ++ drop l.i l.initial.out)

@@ -9,9 +9,9 @@ use Rattle.receiving.proofs.queue.handed.Goals as goal
 
 pub overflow_add-next : goal.overflow_add-next
 unfolding State.left
-overflow_add-next c = omega (arith, c.least-pairs.ensures, c.left.ensures)
+overflow_add-next c = omega (arith, c.min-pairs.ensures, c.left.ensures)
 
 pub returns : goal.returns
 returns c = let a = c.args in
-    handed-so a.r a.now _ _ _ c.shut-next.ensures c.note_delivery-delivering.ensures
-    ∙ ap (Take.handed a.r a.now) (c.least-pairs.ensures ∙ ap (min a.n) c.left.ensures)
+    handed-so a.r a.now _ _ _ c.shut-next.ensures c.note_delivery.ensures
+    ∙ ap (Take.handed a.r a.now) (c.min-pairs.ensures ∙ ap (min a.n) c.left.ensures)

@@ -4,4 +4,4 @@ use Rattle.receiving.proofs.queue.left.Goals as goal
 
 pub returns : goal.returns
 unfolding State.left
-returns c = c.rest.ensures
+returns c = c.saturating_sub.ensures

@@ -6,7 +6,7 @@ pub returns-in_default : goal.returns-in_default
 returns-in_default c = no-anchor c.args.r c.in_default.is
 
 pub returns-then-r-t : goal.returns-then-r-t
-returns-then-r-t c = anchor-later c.args.r _ c.in-At.is c.if-r-t.true
+returns-then-r-t c = anchor-later c.args.r _ c.in-Some.is c.if-r-t.true
 
 pub returns : goal.returns
-returns c = anchor-earlier c.args.r _ c.in-At.is c.if-r-t.false
+returns c = anchor-earlier c.args.r _ c.in-Some.is c.if-r-t.false

@@ -9,8 +9,5 @@ use Rattle.replay.proofs.run.run.Given as goal
 
 abbrev pub invariant-loop-i : goal.invariant-loop-i
 invariant-loop-i l =
-    (l.i ≤ l.n) × (length l.packets ≡ length l.initial.packets) × (length l.places ≡ length l.initial.places) × (length l.answers ≡ length l.initial.answers)
+    (length l.packets ≡ length l.initial.packets) × (length l.places ≡ length l.initial.places) × (length l.answers ≡ length l.initial.answers)
     × Done (joined l.initial.s l.initial.samples) (lent_by l.calls l.octets l.numbers l.initial.packets l.initial.places) l.initial.answers l.n l.i l.taken (joined l.s l.samples) l.answers l.packets l.places
-
-abbrev pub decreases-loop-i : goal.decreases-loop-i
-decreases-loop-i l = l.n - l.i

@@ -6,24 +6,15 @@ use Rattle.tally.proofs.Tellings.{one-added, all-added}
 use Rattle.tally.proofs.rows.sums.Goals as goal
 
 pub loop-i-init : goal.loop-i-init
-loop-i-init c = (omega arith, refl)
-
-pub stretch-requires : goal.stretch-requires
-stretch-requires c = tt
-
-pub plus-t-requires : goal.plus-t-requires
-plus-t-requires c = tt
-
-pub loop-i-smaller : goal.loop-i-smaller
-loop-i-smaller c = omega arith
+loop-i-init c = refl
 
 pub loop-i-preserved : goal.loop-i-preserved
 loop-i-preserved c =
     let a = c.args in
     let l = c.loop-i in
-    (omega arith, one-added (stretches_of a.table.now a.a) l.i _ _ _ (omega (arith, length-stretches a.table.now a.a.stretches a.a.last)) c.stretch.ensures c.plus-t.ensures ∙ l.invariant.1)
+    one-added (stretches_of a.table.now a.a) l.i _ _ _ (omega (arith, length-stretches a.table.now a.a.stretches a.a.last)) c.stretch.ensures c.plus-t.ensures ∙ l.invariant
 
 pub returns : goal.returns
 returns c =
     let a = c.args in
-    all-added (stretches_of a.table.now a.a) c.loop-i.i _ (omega (arith, length-stretches a.table.now a.a.stretches a.a.last)) c.loop-i.invariant.1
+    all-added (stretches_of a.table.now a.a) c.loop-i.i _ (omega (arith, length-stretches a.table.now a.a.stretches a.a.last)) c.loop-i.invariant

@@ -5,7 +5,4 @@ use Rattle.tally.specs.Table.{stretches_of}
 use Rattle.tally.proofs.rows.sums.Given as goal
 
 abbrev pub invariant-loop-i : goal.invariant-loop-i
-invariant-loop-i l = (l.i ≤ l.n) × (sums_from l.t (drop l.i (stretches_of l.table l.a)) ≡ sums_of (stretches_of l.table l.a))
-
-abbrev pub decreases-loop-i : goal.decreases-loop-i
-decreases-loop-i l = l.n - l.i
+invariant-loop-i l = sums_from l.t (drop l.i (stretches_of l.table l.a)) ≡ sums_of (stretches_of l.table l.a)

@@ -5,16 +5,16 @@ use Rattle.tuning.specs.Rate.{rate_answer}
 use Rattle.tuning.proofs.Rates.{field-tested, given-khz, refused-rate}
 use Rattle.tuning.proofs.rate.is_rate_khz.Goals as goal
 
-pub returns-in-Khz : goal.returns-in-Khz
+pub returns-in-Some : goal.returns-in-Some
 unfolding of_bits
-returns-in-Khz c =
+returns-in-Some c =
     let asked = c.rate_khz in
     let khz = c.args.khz in
-    sym (sym (field-tested khz c.row_known-1.given.fits) ∙ (given-khz _ _ (sym (ap rate_answer c.in-Khz.is) ∙ asked.ensures)).0)
+    sym (sym (field-tested khz c.row_known-1.given.fits) ∙ (given-khz _ _ (sym (ap rate_answer c.in-Some.is) ∙ asked.ensures)).0)
 
-pub returns-in-NotEncodable : goal.returns-in-NotEncodable
+pub returns-in-None : goal.returns-in-None
 unfolding of_bits
-returns-in-NotEncodable c =
+returns-in-None c =
     let asked = c.rate_khz in
     let khz = c.args.khz in
-    sym (sym (field-tested khz c.row_known-1.given.fits) ∙ refused-rate _ (sym (ap rate_answer c.in-NotEncodable.is) ∙ asked.ensures))
+    sym (sym (field-tested khz c.row_known-1.given.fits) ∙ refused-rate _ (sym (ap rate_answer c.in-None.is) ∙ asked.ensures))

@@ -1,5 +1,5 @@
 -- `values::hexadecimal::decode` reads a pair of digits a turn. Assumes nothing.
-use Prim.Native.Nat.{◌*◌, ◌-◌, ◌≤◌}
+use Prim.Native.Nat.{◌*◌, ◌≤◌}
 use mathlib.Core.Path.{◌≡◌}
 use mathlib.Core.List.{◌++◌}
 use lib.ListN.{length, drop}
@@ -10,6 +10,3 @@ use Rattle.values.proofs.hexadecimal.decode.Given as goal
 
 abbrev pub invariant-loop-i : goal.invariant-loop-i
 invariant-loop-i l = (l.i ≤ l.count) × (length l.room ≡ length l.initial.room) × Passed hex_digit l.w (2 * l.i) × (l.room ≡ tab l.i (octet_at l.w) ++ drop l.i l.initial.room)
-
-abbrev pub decreases-loop-i : goal.decreases-loop-i
-decreases-loop-i l = l.count - l.i

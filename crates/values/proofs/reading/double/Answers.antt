@@ -1,32 +1,29 @@
 -- `values::reading::double` tells bits from a number by the word's front. Assumes nothing.
 use mathlib.Core.Path.{sym, ap, ◌∙◌}
-use Rattle.text.specs.Name.{ascii}
-use lib.Seq.{length-take-le}
+use native.Mathlib.Omega.{arith}
 use borrow.Author.Tests.{eq-eqb, ne_eqb}
+use lib.ListN.{take}
+use Rattle.text.specs.Name.{ascii}
 use Rattle.text.specs.Number.{digits_of}
-use Rattle.text.proofs.Names.{same-told}
-use Rattle.text.proofs.Splits.{to_the_end}
+use Rattle.text.proofs.Names.{eq-told}
 use Rattle.base.proofs.Picks.{pick-t, pick-f}
 use Rattle.values.specs.Value.{double}
-use Rattle.values.proofs.Values.{short-front}
-use borrow.Author.Rules.{rules}
 use Rattle.values.proofs.reading.double.Goals as goal
 
-pub returns-then-w-lt5 : goal.returns-then-w-lt5
+pub returns-in_default : goal.returns-in_default
 unfolding double
-returns-then-w-lt5 c = c.exact_bits.ensures ∙ sym (pick-f _ _ _ (short-front 5 c.args.w.now (ascii "bits:") c.if-w-lt5.true))
+returns-in_default c = c.exact_bits.ensures ∙ sym (pick-f _ _ _ (sym (eq-told (take 5 c.args.w.now) (ascii "bits:") _ (sym c.in_default.ensures.cases))))
 
-pub slice_bounds-same-end : goal.slice_bounds-same-end
-slice_bounds-same-end c = sym (length-take-le 5 c.args.w.now (search rules))
-
-pub returns-then-w-ne21 : goal.returns-then-w-ne21
+pub returns-then-bits-ne16 : goal.returns-then-bits-ne16
 unfolding double
-returns-then-w-ne21 c = sym (pick-t _ _ _ (sym (same-told _ _ _ c.same.ensures.0 c.same.ensures.1) ∙ c.if-same.true) ∙ pick-f _ _ _ (ne_eqb _ _ c.if-w-ne21.true))
-
-pub returns-then-same : goal.returns-then-same
-unfolding double
-returns-then-same c = c.digits.ensures ∙ ap (digits_of 16) (to_the_end c.args.w.now 5) ∙ sym (pick-t _ _ _ (sym (same-told _ _ _ c.same.ensures.0 c.same.ensures.1) ∙ c.if-same.true) ∙ pick-t _ _ _ (eq-eqb _ _ c.if-w-ne21.false))
+returns-then-bits-ne16 c =
+    let h = c.in-Some.ensures.cases in
+    sym (pick-t _ _ _ (sym (eq-told (take 5 c.args.w.now) (ascii "bits:") _ (sym h.0))) ∙ pick-f _ _ _ (ne_eqb _ _ (λ e. c.if-bits-ne16.true (omega (arith, h.2)))))
 
 pub returns : goal.returns
 unfolding double
-returns c = c.exact_bits-2.ensures ∙ sym (pick-f _ _ _ (sym (same-told _ _ _ c.same.ensures.0 c.same.ensures.1) ∙ c.if-same.false))
+returns c =
+    let h = c.in-Some.ensures.cases in
+    c.digits.ensures
+    ∙ ap (digits_of 16) h.1
+    ∙ sym (pick-t _ _ _ (sym (eq-told (take 5 c.args.w.now) (ascii "bits:") _ (sym h.0))) ∙ pick-t _ _ _ (eq-eqb _ _ (omega (arith, h.2, c.if-bits-ne16.false))))

@@ -1,5 +1,0 @@
--- `arriving::arrival::without_packets` meets its contract. Assumes nothing.
-use Rattle.arriving.proofs.arrival.without_packets.Goals as goal
-
-pub returns : goal.returns
-returns c = simp c.no_streams.ensures

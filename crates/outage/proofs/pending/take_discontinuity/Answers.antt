@@ -1,6 +1,0 @@
--- `outage::pending::take_discontinuity` meets its contract: the slot is handed out and emptied, the other one stays. Assumes nothing.
-use mathlib.Core.Path.{refl}
-use Rattle.outage.proofs.pending.take_discontinuity.Goals as goal
-
-pub returns : goal.returns
-returns c = refl

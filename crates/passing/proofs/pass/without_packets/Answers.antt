@@ -1,5 +1,0 @@
--- `passing::pass::without_packets` meets its contract. Assumes nothing.
-use Rattle.passing.proofs.pass.without_packets.Goals as goal
-
-pub returns : goal.returns
-returns c = simp c.no_streams.ensures
