@@ -9,7 +9,7 @@ CHANGED = [
     ("receiver", "Pending", "missing discontinuity"),
     ("receiver", "Receiver", "tracker queue_pos reading parked pending last_valid_iq last_accepted_iq read_returned stall"),
     ("session", "Clocks", "high_priority rx_tx_specific general"),
-    ("session", "Common", "seq clocks attenuator health consecutive_malformed last_reading closed"),
+    ("session", "Common", "seq clocks attenuation health consecutive_malformed last_reading closed"),
     ("session", "Session", "common receiver"),
 ]
 
@@ -17,6 +17,7 @@ CHANGED = [
 ELSEWHERE = {
     "SeqTracker": "Rattle.sequence.specs.declared.SeqTracker",
     "StallEpisode": "Rattle.stall.specs.declared.StallEpisode",
+    "Controller": "Rattle.attenuator.specs.declared.Controller",
     "InputHealthCounters": "Rattle.health.specs.declared.InputHealthCounters",
 }
 
@@ -34,6 +35,9 @@ def kind(of):
         return "ℕ"
     if re.fullmatch(r"\[u\d+; \d+\]", of):
         return "List ℕ"
+    inner = re.fullmatch(r"Option<(\w+)>", of)
+    if inner:
+        return f"Option {kind(inner.group(1))}"
     return of
 
 
@@ -44,12 +48,13 @@ def main():
         types[struct] = module
         for name in names.split():
             value = kind(dict(of)[name])
-            if value not in ("ℕ", "Bool", "List ℕ") and value not in ELSEWHERE:
-                types.setdefault(value, module)
+            named = value.removeprefix("Option ")
+            if named not in ("ℕ", "Bool", "List ℕ") and named not in ELSEWHERE:
+                types.setdefault(named, module)
             parts = "; ".join(f"{n} = {'x' if n == name else 's.' + n}" for n, _ in of)
             setters.append(f"abbrev pub with_{name} : {struct} → {value} → {struct}\nwith_{name} s x =\n    record {{ {parts} }}\n")
     print("-- The parts of a session with one of them changed: made by tools/setters.py. Definitions only.")
-    print("use Rattle.std.specs.Prelude.{ℕ, Bool, List}")
+    print("use Rattle.std.specs.Prelude.{ℕ, Bool, List, Option}")
     for name, path in ELSEWHERE.items():
         print(f"use {path}.{{{name}}}")
     for name, module in types.items():
