@@ -1,12 +1,34 @@
--- What comes next of a file. Definitions only.
-use Rattle.std.specs.Prelude.{ℕ, ◌≡◌, List, take, length}
+-- What comes next of a file, and what is left of what was read. Definitions only.
+use Rattle.std.specs.Prelude.{ℕ, ◌+◌, ◌<◌, ◌≡◌, ◌⊎◌, true, false, List, take, length}
 use Rattle.text.specs.Run.{run, other}
+use Rattle.console.specs.declared.input.Input.{Input}
 use Rattle.console.specs.declared.input.Next.{Next}
 use Rattle.console.specs.declared.input.Next.TheVariants.{Line, TooLong, Cut, Over}
 
--- of what was read and is no line yet: a line is all of it before the first newline, and nothing is left out where it is too long or over
-abbrev pub Comes : List ℕ → Next → Type 0
-Comes rest (Line l) = l.now ≡ take (run (other 10) rest) rest
-Comes rest (TooLong l) = l.now ≡ rest
-Comes rest Cut = Unit {0}
-Comes rest Over = length rest ≡ 0
+-- the room's octets
+abbrev pub room : ℕ
+room = 131072
+
+-- how many octets stand before the first newline: all, where there is none
+abbrev pub before : List ℕ → ℕ
+before rest = run (other 10) rest
+
+-- so many octets are taken, and nothing else changes
+pub record Taken (n : ℕ) (i j : Input) : Type 0 where
+  pub next : j.next ≡ i.next + n
+  pub filled : j.filled ≡ i.filled
+  pub over : j.over ≡ i.over
+  pub failed : j.failed ≡ i.failed
+
+-- a line ends before a newline, which is taken with it, or where the file does
+abbrev pub Ends : List ℕ → Input → Input → Type 0
+Ends rest i j =
+    (before rest < length rest) × Taken (before rest + 1) i j
+    ⊎ (before rest ≡ length rest) × (0 < length rest) × (length rest < room) × (i.over ≡ true) × Taken (length rest) i j
+
+-- of the rest that was read and is no line yet
+abbrev pub Comes : List ℕ → Input → Next → Input → Type 0
+Comes rest i (Line l) j = (l.now ≡ take (before rest) rest) × Ends rest i j
+Comes rest i (TooLong l) j = (l.now ≡ rest) × (before rest ≡ room) × Taken (length rest) i j
+Comes rest i Cut j = (before rest ≡ length rest) × (length rest < room) × (i.over ≡ false) × Taken 0 i j
+Comes rest i Over j = (length rest ≡ 0) × (i.over ≡ true) × Taken 0 i j

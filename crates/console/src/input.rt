@@ -56,9 +56,9 @@ impl Input {
         self.failed
     }
 
-    // The next line of what was read.
+    // The next line of what was read, which is taken.
     pub fn next<'a>(&mut self, room: &'a [u8; ROOM]) -> Next<'a>
-        ensures { Comes (slice_range room.now self.old.next self.old.filled) result }
+        ensures { Comes (slice_range room.now self.old.next self.old.filled) self.old result self.new }
     {
         let rest = &room[self.next..self.filled];
         let n = find(rest, b'\n');
@@ -103,6 +103,7 @@ impl Input {
             }
         }
     }
+
     // Reads on. A read may wait: what is answered is written first, so that whoever writes the file has its answers. Nothing is read where
     // that fails.
     pub fn read_on<R: Read>(&mut self, from: &mut R, room: &mut [u8; ROOM], out: &mut Output)
