@@ -1,5 +1,5 @@
 -- What comes next of a file, and what is left of what was read. Definitions only.
-use Rattle.std.specs.Prelude.{ℕ, ◌+◌, ◌<◌, ◌≡◌, ◌⊎◌, true, false, List, take, length}
+use Rattle.std.specs.Prelude.{ℕ, ◌+◌, ◌-◌, ◌<◌, ◌≤◌, ◌≡◌, ◌⊎◌, true, false, List, take, length, slice_range}
 use Rattle.text.specs.Run.{run, other}
 use Rattle.console.specs.declared.input.Input.{Input}
 use Rattle.console.specs.declared.input.Next.{Next}
@@ -32,3 +32,10 @@ Comes rest i (Line l) j = (l.now ≡ take (before rest) rest) × Ends rest i j
 Comes rest i (TooLong l) j = (l.now ≡ rest) × (before rest ≡ room) × Taken (length rest) i j
 Comes rest i Cut j = (before rest ≡ length rest) × (length rest < room) × (i.over ≡ false) × Taken 0 i j
 Comes rest i Over j = (length rest ≡ 0) × (i.over ≡ true) × Taken 0 i j
+
+-- what is no line yet goes to the room's front, and what is read comes behind it; where the file has no more, nothing does
+pub record Filled (i : Input) (d : List ℕ) (j : Input) (e : List ℕ) : Type 0 where
+  pub front : j.next ≡ 0
+  pub behind : i.filled - i.next ≤ j.filled
+  pub kept : take (i.filled - i.next) e ≡ slice_range d i.next i.filled
+  pub ended : j.over ≡ true → j.filled ≡ i.filled - i.next

@@ -1,5 +1,5 @@
 // The lines of a file. A read that fails is no end of them.
-ghost use Rattle.std.specs.Prelude.{◌≤◌, ◌≡◌, slice_range};
+ghost use Rattle.std.specs.Prelude.{◌≤◌, ◌≡◌, true, false, None, slice_range};
 
 use super::output::Output;
 use std::io::{Error, ErrorKind, Read};
@@ -36,11 +36,15 @@ pub enum Next<'a> {
 }
 
 impl Input {
-    ghost use Rattle.console.specs.Input.{Comes};
+    ghost use Rattle.console.specs.Input.{Comes, Filled};
     ghost use Rattle.console.specs.Output.{Flushed};
 
     // That of a file of which nothing is read.
-    pub fn new() -> Input {
+    pub fn new() -> Input
+        ensures filled { result.filled ≡ 0 }
+        ensures over { result.over ≡ false }
+        ensures failed { result.failed ≡ None }
+    {
         Input {
             next: 0,
             filled: 0,
@@ -82,7 +86,9 @@ impl Input {
 
     // What is no line yet goes to the front, and more is read behind it. A room that is full stays as it is: a read of no octets would
     // look like the file's end. A read that a signal interrupts gave nothing, and is tried again.
-    pub fn fill<R: Read>(&mut self, from: &mut R, room: &mut [u8; ROOM]) {
+    pub fn fill<R: Read>(&mut self, from: &mut R, room: &mut [u8; ROOM])
+        ensures { Filled self.old room.old self.new room.new }
+    {
         room.copy_within(self.next..self.filled, 0);
         self.filled -= self.next;
         self.next = 0;
@@ -109,6 +115,8 @@ impl Input {
     pub fn read_on<R: Read>(&mut self, from: &mut R, room: &mut [u8; ROOM], out: &mut Output)
         ensures flushed { Flushed out.old out.new }
         ensures kept { out.new.room ≡ out.old.room }
+        ensures stays { out.new.failed ≡ true → (self.new ≡ self.old) × (room.new ≡ room.old) }
+        ensures reads { out.new.failed ≡ false → Filled self.old room.old self.new room.new }
     {
         out.flush();
         if !out.has_failed() {

@@ -1,6 +1,6 @@
 // What the program writes, gathered in a buffer and written out where it is full. A write that fails is told once, and nothing is
 // written after it.
-ghost use Rattle.std.specs.Prelude.{◌≤◌, ◌≡◌, replicate, false};
+ghost use Rattle.std.specs.Prelude.{◌≤◌, ◌≡◌, replicate, false, not};
 
 use super::fault::fail;
 use std::io::{Error, Stderr, Stdout, Write};
@@ -79,7 +79,9 @@ impl Output {
 
     // Writes what is still to be written, as the last; whether all is written.
     pub fn finish(&mut self) -> bool
-        ensures { self.new.room ≡ self.old.room }
+        ensures flushed { Flushed self.old self.new }
+        ensures written { result ≡ not self.new.failed }
+        ensures kept { self.new.room ≡ self.old.room }
     {
         self.flush();
         !self.failed
