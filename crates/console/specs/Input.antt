@@ -5,9 +5,9 @@ use Rattle.console.specs.declared.input.Input.{Input}
 use Rattle.console.specs.declared.input.Next.{Next}
 use Rattle.console.specs.declared.input.Next.TheVariants.{Line, TooLong, Cut, Over}
 
--- the room's octets
-abbrev pub room : ℕ
-room = 131072
+-- the octets that a line and its newline have room for
+abbrev pub line_room : ℕ
+line_room = 131072
 
 -- how many octets stand before the first newline: all, where there is none
 abbrev pub before : List ℕ → ℕ
@@ -24,13 +24,13 @@ pub record Taken (n : ℕ) (i j : Input) : Type 0 where
 abbrev pub Ends : List ℕ → Input → Input → Type 0
 Ends rest i j =
     (before rest < length rest) × Taken (before rest + 1) i j
-    ⊎ (before rest ≡ length rest) × (0 < length rest) × (length rest < room) × (i.over ≡ true) × Taken (length rest) i j
+    ⊎ (before rest ≡ length rest) × (0 < length rest) × (length rest < line_room) × (i.over ≡ true) × Taken (length rest) i j
 
 -- of the rest that was read and is no line yet
 abbrev pub Comes : List ℕ → Input → Next → Input → Type 0
 Comes rest i (Line l) j = (l.now ≡ take (before rest) rest) × Ends rest i j
-Comes rest i (TooLong l) j = (l.now ≡ rest) × (before rest ≡ room) × Taken (length rest) i j
-Comes rest i Cut j = (before rest ≡ length rest) × (length rest < room) × (i.over ≡ false) × Taken 0 i j
+Comes rest i (TooLong l) j = (l.now ≡ rest) × (before rest ≡ line_room) × Taken (length rest) i j
+Comes rest i Cut j = (before rest ≡ length rest) × (length rest < line_room) × (i.over ≡ false) × Taken 0 i j
 Comes rest i Over j = (length rest ≡ 0) × (i.over ≡ true) × Taken 0 i j
 
 -- what is no line yet goes to the room's front, and what is read comes behind it; where the file has no more, nothing does
