@@ -1,1 +1,2 @@
--- `keepalive` needs no laws of its own: those of sending serve.
+-- The law of a step that a clock decides; the laws of sending serve for the rest.
+pub mod Clocks

@@ -1,4 +1,4 @@
--- An answer in 01's words and numbers leaves no doubt which answer of the code it was. Assumes nothing.
+-- An answer in 01's words and numbers, with the streams that it lists, leaves no doubt which answer of the code it was. Assumes nothing.
 use Rattle.std.specs.Prelude.{⊤, Result, Ok, Err}
 use Rattle.model.specs.declared.settings.SettingsError.{SettingsError}
 use Rattle.model.specs.declared.settings.SettingsError.TheVariants as settings
@@ -6,7 +6,7 @@ use Rattle.model.specs.declared.answer.Refusal.{Refusal}
 use Rattle.model.specs.declared.answer.Refusal.TheVariants as refusal
 use Rattle.model.specs.declared.answer.PassAnswer.TheVariants as pass
 use Rattle.model.specs.declared.answer.ArrivalAnswer.TheVariants as arrival
-use Rattle.std.proofs.Common.{◌≡◌, ℕ, eqb, get_or, refl, ltb}
+use Rattle.std.proofs.Common.{◌≡◌, ◌∙◌, ℕ, ap, eqb, get_or, refl, sym, ltb}
 use Rattle.base.specs.Pick.{pick}
 use Rattle.base.specs.Told.{Told, gives}
 use Rattle.base.proofs.Told.{apart}
@@ -14,6 +14,8 @@ use Rattle.sequence.specs.declared.SeqEvent.{SeqEvent}
 use Rattle.sequence.specs.declared.SeqEvent.TheVariants.{InOrder}
 use Rattle.model.specs.Settings.{settings_answer}
 use Rattle.model.specs.Answer.{refused_by, Word, begun, ready, soft_stall, hard_stall, sent, ignored, status, malformed, malformed_limit, closed, Answer, refused, done, heard, took, slot, flag, begin_answer, pass_answer, arrival_answer, take_answer, close_answer}
+use Rattle.model.specs.Gives.{pass_streams, arrival_streams, close_streams}
+use Rattle.model.specs.declared.command.Streams.{Streams}
 use Rattle.model.specs.declared.answer.PassAnswer.{PassAnswer}
 use Rattle.model.specs.declared.answer.ArrivalAnswer.{ArrivalAnswer}
 
@@ -113,34 +115,40 @@ unfolding begin-back or_refusal pick number word
 begin-same (Ok u) = refl
 begin-same (Err r) = refusal_same r tt
 
-pass-by : Answer → PassAnswer
-pass-by a = pick (eqb (number a) 21) pass.Ready (pick (eqb (number a) 22) pass.SoftStall (pick (eqb (number a) 23) pass.HardStall pass.Sent))
+-- a call that lists streams is told by its answer and them
+listed-apart : {A : Type 0} (answer : A → Answer) (streams : A → Streams) (back : Answer → Streams → A) → ((r : A) → back (answer r) (streams r) ≡ r)
+    → (r s : A) → answer r ≡ answer s → streams r ≡ streams s → r ≡ s
+listed-apart answer streams back same r s h k =
+    sym (same r) ∙ ap (λ (a : Answer). back a (streams r)) h ∙ ap (back (answer s)) k ∙ same s
 
-pass-back : Answer → Result PassAnswer Refusal
-pass-back a = or_refusal a (pass-by a)
+pass-by : Answer → Streams → PassAnswer
+pass-by a l = pick (eqb (number a) 21) pass.Ready (pick (eqb (number a) 22) pass.SoftStall (pick (eqb (number a) 23) pass.HardStall (pass.Sent l)))
 
-pass_same : (r : Result PassAnswer Refusal) → pass-back (pass_answer r) ≡ r
+pass-back : Answer → Streams → Result PassAnswer Refusal
+pass-back a l = or_refusal a (pass-by a l)
+
+pass_same : (r : Result PassAnswer Refusal) → pass-back (pass_answer r) (pass_streams r) ≡ r
 unfolding pass-back or_refusal pass-by pick number word
 pass_same (Ok pass.Ready) = refl
 pass_same (Ok pass.SoftStall) = refl
 pass_same (Ok pass.HardStall) = refl
-pass_same (Ok pass.Sent) = refl
+pass_same (Ok (pass.Sent streams)) = refl
 pass_same (Err r) = refusal_same r _
 
-arrival-by : Answer → ArrivalAnswer
-arrival-by a =
+arrival-by : Answer → Streams → ArrivalAnswer
+arrival-by a l =
     pick (eqb (number a) 25) arrival.Ignored
-    (pick (eqb (number a) 26) arrival.Status
+    (pick (eqb (number a) 26) (arrival.Status l)
     (pick (eqb (number a) 27) arrival.Malformed
     (pick (eqb (number a) 28) arrival.MalformedLimit (arrival.Iq (event a) (value a)))))
 
-arrival-back : Answer → Result ArrivalAnswer Refusal
-arrival-back a = or_refusal a (arrival-by a)
+arrival-back : Answer → Streams → Result ArrivalAnswer Refusal
+arrival-back a l = or_refusal a (arrival-by a l)
 
-arrival-same : (r : Result ArrivalAnswer Refusal) → arrival-back (arrival_answer r) ≡ r
+arrival-same : (r : Result ArrivalAnswer Refusal) → arrival-back (arrival_answer r) (arrival_streams r) ≡ r
 unfolding arrival-back or_refusal arrival-by pick number word event value
 arrival-same (Ok arrival.Ignored) = refl
-arrival-same (Ok arrival.Status) = refl
+arrival-same (Ok (arrival.Status streams)) = refl
 arrival-same (Ok arrival.Malformed) = refl
 arrival-same (Ok arrival.MalformedLimit) = refl
 arrival-same (Ok (arrival.Iq e m)) = refl
@@ -154,13 +162,13 @@ unfolding take_back or_refusal pick number value
 take_same (Ok n) = refl
 take_same (Err r) = refusal_same r _
 
-close-back : Answer → Result ⊤ Refusal
-close-back a = or_refusal a tt
+close-back : Answer → Streams → Result Streams Refusal
+close-back a l = or_refusal a l
 
-close-same : (r : Result ⊤ Refusal) → close-back (close_answer r) ≡ r
+close-same : (r : Result Streams Refusal) → close-back (close_answer r) (close_streams r) ≡ r
 unfolding close-back or_refusal pick number word
-close-same (Ok u) = refl
-close-same (Err r) = refusal_same r tt
+close-same (Ok streams) = refl
+close-same (Err r) = refusal_same r _
 
 pub settings-apart : (r s : Result ℕ SettingsError) → settings_answer r ≡ settings_answer s → r ≡ s
 settings-apart = apart settings_answer settings-back settings-same
@@ -168,14 +176,14 @@ settings-apart = apart settings_answer settings-back settings-same
 pub begin-apart : (r s : Result ⊤ Refusal) → begin_answer r ≡ begin_answer s → r ≡ s
 begin-apart = apart begin_answer begin-back begin-same
 
-pub pass-apart : (r s : Result PassAnswer Refusal) → pass_answer r ≡ pass_answer s → r ≡ s
-pass-apart = apart pass_answer pass-back pass_same
+pub pass-apart : (r s : Result PassAnswer Refusal) → pass_answer r ≡ pass_answer s → pass_streams r ≡ pass_streams s → r ≡ s
+pass-apart = listed-apart pass_answer pass_streams pass-back pass_same
 
-pub arrival-apart : (r s : Result ArrivalAnswer Refusal) → arrival_answer r ≡ arrival_answer s → r ≡ s
-arrival-apart = apart arrival_answer arrival-back arrival-same
+pub arrival-apart : (r s : Result ArrivalAnswer Refusal) → arrival_answer r ≡ arrival_answer s → arrival_streams r ≡ arrival_streams s → r ≡ s
+arrival-apart = listed-apart arrival_answer arrival_streams arrival-back arrival-same
 
 pub take-apart : (r s : Result ℕ Refusal) → take_answer r ≡ take_answer s → r ≡ s
 take-apart = apart take_answer take_back take_same
 
-pub close-apart : (r s : Result ⊤ Refusal) → close_answer r ≡ close_answer s → r ≡ s
-close-apart = apart close_answer close-back close-same
+pub close-apart : (r s : Result Streams Refusal) → close_answer r ≡ close_answer s → close_streams r ≡ close_streams s → r ≡ s
+close-apart = listed-apart close_answer close_streams close-back close-same

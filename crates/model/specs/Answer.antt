@@ -5,6 +5,7 @@ use Rattle.model.specs.declared.answer.Refusal.TheVariants as refusal
 use Rattle.model.specs.declared.answer.PassAnswer.TheVariants as pass
 use Rattle.model.specs.declared.answer.ArrivalAnswer.TheVariants as arrival
 use Rattle.sequence.specs.declared.SeqEvent.{SeqEvent}
+use Rattle.model.specs.declared.command.Streams.{Streams}
 use Rattle.model.specs.declared.answer.PassAnswer.{PassAnswer}
 use Rattle.model.specs.declared.answer.ArrivalAnswer.{ArrivalAnswer}
 
@@ -55,12 +56,12 @@ abbrev pub pass_answer : Result PassAnswer Refusal → Answer
 pass_answer (Ok pass.Ready) = done ready
 pass_answer (Ok pass.SoftStall) = done soft_stall
 pass_answer (Ok pass.HardStall) = done hard_stall
-pass_answer (Ok pass.Sent) = done sent
+pass_answer (Ok (pass.Sent streams)) = done sent
 pass_answer (Err r) = refused_by r
 
 abbrev pub arrival_answer : Result ArrivalAnswer Refusal → Answer
 arrival_answer (Ok arrival.Ignored) = done ignored
-arrival_answer (Ok arrival.Status) = done status
+arrival_answer (Ok (arrival.Status streams)) = done status
 arrival_answer (Ok arrival.Malformed) = done malformed
 arrival_answer (Ok arrival.MalformedLimit) = done malformed_limit
 arrival_answer (Ok (arrival.Iq event missing)) = heard event missing
@@ -70,8 +71,8 @@ abbrev pub take_answer : Result ℕ Refusal → Answer
 take_answer (Ok pairs) = took pairs
 take_answer (Err r) = refused_by r
 
-abbrev pub close_answer : Result ⊤ Refusal → Answer
-close_answer (Ok u) = done closed
+abbrev pub close_answer : Result Streams Refusal → Answer
+close_answer (Ok streams) = done closed
 close_answer (Err r) = refused_by r
 
 -- what an answer tells of the stream

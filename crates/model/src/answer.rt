@@ -1,4 +1,4 @@
-// What Open and each call answer, with the session after it. 01's number or words of each case: specs/Answer and specs/Settings.
+// What Open and each call answer. 01's number or words of each case: specs/Answer and specs/Settings.
 ghost use Rattle.std.specs.Prelude.{◌≡◌};
 ghost use Rattle.model.specs.Answer.{refusal_number};
 
@@ -40,21 +40,6 @@ impl Refusal {
     }
 }
 
-// What a call answers, the streams that it wrote, and the session after it. A refused call wrote none, and the session is as it was.
-#[derive(Clone, Copy)]
-pub struct Answered<A> {
-    pub answer: Result<A, Refusal>,
-    pub streams: Streams,
-    pub session: Session,
-}
-
-// What a drain returns, and the session after it.
-#[derive(Clone, Copy)]
-pub struct Drained<A> {
-    pub held: A,
-    pub session: Session,
-}
-
 #[derive(Clone, Copy)]
 pub struct Opened {
     // the rate in kHz
@@ -67,14 +52,16 @@ pub enum PassAnswer {
     Ready,
     SoftStall,
     HardStall,
-    Sent,
+    // with the streams that it wrote
+    Sent(Streams),
 }
 
 #[derive(Clone, Copy)]
 pub enum ArrivalAnswer {
     // a port that is not read, or a status packet that is not
     Ignored,
-    Status,
+    // with the streams that it wrote
+    Status(Streams),
     Malformed,
     // and the read is closed
     MalformedLimit,

@@ -4,6 +4,7 @@
 
 pub mod answer;
 pub mod command;
+pub mod incoming;
 pub mod receiver;
 pub mod sender;
 pub mod session;

@@ -1,7 +1,4 @@
 -- What a call gives that wrote nothing, and one that wrote packets. Assumes nothing.
-use Rattle.std.specs.Prelude.{⊤, Result}
-use Rattle.model.specs.declared.answer.Refusal.{Refusal}
-use Rattle.model.specs.declared.answer.Answered.{Answered}
 use Rattle.std.proofs.Common.{◌≡◌, ◌∙◌, ℕ, ◌≤◌, List, [], length, sym, refl, ap, subst, arith}
 use lib.Ieee.{Float}
 use Rattle.octets.specs.Written.{written}
@@ -21,33 +18,9 @@ use Rattle.sending.proofs.Progresses.{sends-first}
 
 -- ---- nothing was written
 
-gives-told : {S : Type 0} (a : Answer) (l : Streams) (d : List ℕ) (s : S) (x : Step S) → l ≡ streams_as [] → x ≡ replied a [] d [] s → Gives a l d s x
+pub gives-told : {S : Type 0} (a : Answer) (l : Streams) (d : List ℕ) (s : S) (x : Step S) → l ≡ streams_as [] → x ≡ replied a [] d [] s → Gives a l d s x
 gives-told {S} a l d s x h e =
     subst (λ (y : Step S). Gives a l d s y) (sym e) (record { answers = refl; lists = h; writes = refl; leaves = refl })
-
--- the same of a value that the code was promised to be q
-told-as : {R S : Type 0} (answer : R → Answer) (streams : R → Streams) (state : R → S) (r q : R) (d : List ℕ) (x : Step S) → r ≡ q → streams q ≡ streams_as []
-    → x ≡ replied (answer q) [] d [] (state q) → Gives (answer r) (streams r) d (state r) x
-told-as {R} answer streams state r q d x h l e =
-    subst (λ (y : R). Gives (answer y) (streams y) d (state y) x) (sym h) (gives-told (answer q) (streams q) d (state q) x l e)
-
--- an answer of any call, which the code gives this name
-module _ {A : Type 0} (named : Result A Refusal → Answer) (s : Session) (d : List ℕ) where
-  pub answer-told : (r : Answered A) (a : Result A Refusal) (x : Step Session) → r ≡ record { answer = a; streams = streams_as []; session = s }
-      → x ≡ replied (named a) [] d [] s → Gives (named r.answer) r.streams d r.session x
-  answer-told r a x h e = told-as (λ (y : Answered A). named y.answer) (λ y. y.streams) (λ y. y.session) r _ d x h refl e
-
-  -- with the samples beside it
-  pub answer-told_beside : (samples : List Float) (r : Answered A) (a : Result A Refusal) (x : Step State) → r ≡ record { answer = a; streams = streams_as []; session = s }
-      → x ≡ replied (named a) [] d [] (joined s samples) → Gives (named r.answer) r.streams d (joined r.session samples) x
-  answer-told_beside samples r a x h e =
-      told-as (λ (y : Answered A). named y.answer) (λ y. y.streams) (λ y. joined y.session samples) r _ d x h refl e
-
-  -- of a call that is lent no packets
-  pub answer-replied : {S : Type 0} (leaves : Session → S) (buffer : List Float) (r : Answered A) (a : Result A Refusal) (x : Step S)
-      → r ≡ record { answer = a; streams = streams_as []; session = s } → replied (named a) [] [] buffer (leaves s) ≡ x
-      → replied (named r.answer) [] [] buffer (leaves r.session) ≡ x
-  answer-replied leaves buffer r a x h e = ap (λ (y : Answered A). replied (named y.answer) [] [] buffer (leaves y.session)) h ∙ e
 
 -- a call that is not lent the samples keeps them
 pub gives-kept : (a : Answer) (l : Streams) (d : List ℕ) (s : Session) (samples : List Float) (x : Step Session) (y : Step State) → y ≡ keeping samples x

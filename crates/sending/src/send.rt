@@ -6,9 +6,8 @@ ghost use Rattle.model.specs.Command.{streams_as};
 ghost use Rattle.wire.specs.Command.{size_of};
 ghost use Rattle.sending.specs.Progress.{appended, started, Sends, HasRoom};
 
-use model::answer::{Answered, Refusal};
 use model::command::Streams;
-use model::session::{Common, Session};
+use model::session::Common;
 use wire::command::Stream;
 use wire::packet::{
     GENERAL_LEN, HIGH_PRIORITY_LEN, RX_SPECIFIC_LEN, TX_SPECIFIC_LEN, general_packet,
@@ -33,25 +32,13 @@ pub fn no_streams() -> Streams
     }
 }
 
-// What a call answered that wrote no packet.
-pub fn without_packets<A>(answer: Result<A, Refusal>, session: Session) -> Answered<A>
-    ensures { result ≡ record { answer = answer; streams = streams_as []; session = session } }
-{
-    Answered {
-        answer,
-        streams: no_streams(),
-        session,
-    }
-}
-
 // Nothing is written yet.
 pub fn start(common: Common) -> Progress
     ensures { result ≡ started common }
 {
-    let streams = no_streams();
     Progress {
         common,
-        streams,
+        streams: no_streams(),
         end: 0,
     }
 }
@@ -103,42 +90,32 @@ fn put_packet(c: Common, stream: Stream, run: bool, out: &mut [u8]) -> usize
 }
 
 // One stream more is listed.
-fn list(streams: Streams, offset: u8) -> Streams
-    requires { streams.count ≤ 4 }
-    ensures { result ≡ appended streams offset }
+fn list(streams: &mut Streams, offset: u8)
+    requires { streams.old.count ≤ 4 }
+    ensures { streams.new ≡ appended streams.old offset }
 {
-    let n = streams.count;
-    let mut next = streams;
-    next.offsets[n] = offset;
-    next.count = n + 1;
-    next
+    streams.offsets[streams.count] = offset;
+    streams.count += 1;
 }
 
 // Writes the next packet of a stream from the current end of the buffer on, and raises that stream's count.
-pub fn send(p: Progress, stream: Stream, run: bool, packets: &mut [u8]) -> Progress
-    requires { HasRoom (size_of stream) 1 p (length packets.old) }
-    ensures { Sends (Sending.send stream run p.common) p packets.old result packets.new }
+pub fn send(p: &mut Progress, stream: Stream, run: bool, packets: &mut [u8])
+    requires { HasRoom (size_of stream) 1 p.old (length packets.old) }
+    ensures { Sends (Sending.send stream run p.old.common) p.old packets.old p.new packets.new }
 {
-    let end = p.end;
-    let mut common = p.common;
-    let length = put_packet(common, stream, run, &mut packets[end..]);
+    let length = put_packet(p.common, stream, run, &mut packets[p.end..]);
     let offset = stream.offset();
-    let streams = p.streams;
-    let listed = list(streams, offset);
+    list(&mut p.streams, offset);
     let i = offset as usize;
-    common.seq[i] = std::num::wrapping_add_u32(common.seq[i], 1);
-    Progress {
-        common,
-        streams: listed,
-        end: end + length,
-    }
+    p.common.seq[i] = p.common.seq[i].wrapping_add(1);
+    p.end += length;
 }
 
 // Run turned off, by two high priority packets.
-pub fn send_stop(p: Progress, packets: &mut [u8]) -> Progress
-    requires { HasRoom 2888 2 p (length packets.old) }
-    ensures { Sends (Sending.stop_packets p.common) p packets.old result packets.new }
+pub fn send_stop(p: &mut Progress, packets: &mut [u8])
+    requires { HasRoom 2888 2 p.old (length packets.old) }
+    ensures { Sends (Sending.stop_packets p.old.common) p.old packets.old p.new packets.new }
 {
-    let first = send(p, Stream::HighPriority, false, packets);
-    send(first, Stream::HighPriority, false, packets)
+    send(p, Stream::HighPriority, false, packets);
+    send(p, Stream::HighPriority, false, packets)
 }

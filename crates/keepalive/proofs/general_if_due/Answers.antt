@@ -1,15 +1,23 @@
 -- `keepalive::general_if_due` meets its contract. Assumes nothing.
+use Rattle.std.proofs.Common.{ℕ, true, refl}
 use Rattle.model.specs.Sending as Sending
-use Rattle.base.proofs.Tests.{due, not-due}
-use Rattle.sending.proofs.Progresses.{sends-due, sends-idle, sends-from}
+use Rattle.model.specs.Parts.{with_clocks, with_general}
+use Rattle.model.specs.declared.session.Common.{Common}
+use Rattle.wire.specs.declared.command.Stream.TheVariants.{General}
+use Rattle.keepalive.proofs.Clocks.{sends-if-due, idle-if-not-due}
 use Rattle.keepalive.proofs.general_if_due.Goals as goal
 
-pub returns-then-since-ge-GENERAL_EVERY : goal.returns-then-since-ge-GENERAL_EVERY
-unfolding Sending.general_if_due Sending.send_general
-returns-then-since-ge-GENERAL_EVERY c = let a = c.args in
-    sends-due _ _ a.p _ _ _ (due 800000000 a.reading a.p.common.clocks.general _ c.since.ensures c.if-since-ge-GENERAL_EVERY.true)
-    (sends-from _ a.p _ _ _ _ c.send.ensures)
+set : Common → ℕ → Common
+set c t = with_clocks c (with_general c.clocks t)
 
-pub returns : goal.returns
-unfolding Sending.general_if_due
-returns c = let a = c.args in sends-idle _ _ a.p _ (not-due 800000000 a.reading a.p.common.clocks.general _ c.since.ensures c.if-since-ge-GENERAL_EVERY.false)
+pub returns-then-is_due : goal.returns-then-is_due
+unfolding Sending.general_if_due Sending.send_general set
+returns-then-is_due c =
+    let a = c.args in
+    sends-if-due (set a.p.now.common) (λ (x : Common). Sending.send General true x) 800000000 a.reading _ a.p.now _ _ _ c.is_due.ensures _ _ c.if-is_due.true c.send.ensures
+
+pub returns-else-is_due : goal.returns-else-is_due
+unfolding Sending.general_if_due Sending.send_general set
+returns-else-is_due c =
+    let a = c.args in
+    idle-if-not-due (set a.p.now.common) (λ (x : Common). Sending.send General true x) 800000000 a.reading _ a.p.now _ _ _ c.is_due.ensures refl c.if-is_due.false

@@ -1,13 +1,23 @@
 -- `keepalive::high_priority_if_due` meets its contract. Assumes nothing.
+use Rattle.std.proofs.Common.{ℕ, true, refl}
 use Rattle.model.specs.Sending as Sending
-use Rattle.base.proofs.Tests.{due, not-due}
-use Rattle.sending.proofs.Progresses.{sends-due, sends-idle}
+use Rattle.model.specs.Parts.{with_clocks, with_high_priority}
+use Rattle.model.specs.declared.session.Common.{Common}
+use Rattle.wire.specs.declared.command.Stream.TheVariants.{HighPriority}
+use Rattle.keepalive.proofs.Clocks.{sends-if-due, idle-if-not-due}
 use Rattle.keepalive.proofs.high_priority_if_due.Goals as goal
 
-pub returns-then-since-ge-HIGH_PRIORITY_EVERY : goal.returns-then-since-ge-HIGH_PRIORITY_EVERY
-unfolding Sending.high_if_due
-returns-then-since-ge-HIGH_PRIORITY_EVERY c = let a = c.args in sends-due _ _ a.p _ _ _ (due 100000000 a.reading a.p.common.clocks.high_priority _ c.since.ensures c.if-since-ge-HIGH_PRIORITY_EVERY.true) c.send_high_priority.ensures
+set : Common → ℕ → Common
+set c t = with_clocks c (with_high_priority c.clocks t)
 
-pub returns : goal.returns
-unfolding Sending.high_if_due
-returns c = let a = c.args in sends-idle _ _ a.p _ (not-due 100000000 a.reading a.p.common.clocks.high_priority _ c.since.ensures c.if-since-ge-HIGH_PRIORITY_EVERY.false)
+pub returns-then-is_due : goal.returns-then-is_due
+unfolding Sending.high_if_due Sending.send_high set
+returns-then-is_due c =
+    let a = c.args in
+    sends-if-due (set a.p.now.common) (λ (x : Common). Sending.send HighPriority true x) 100000000 a.reading _ a.p.now _ _ _ c.is_due.ensures _ _ c.if-is_due.true c.send.ensures
+
+pub returns-else-is_due : goal.returns-else-is_due
+unfolding Sending.high_if_due Sending.send_high set
+returns-else-is_due c =
+    let a = c.args in
+    idle-if-not-due (set a.p.now.common) (λ (x : Common). Sending.send HighPriority true x) 100000000 a.reading _ a.p.now _ _ _ c.is_due.ensures refl c.if-is_due.false

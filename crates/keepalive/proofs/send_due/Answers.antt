@@ -14,11 +14,11 @@ left : (now : ℕ) (p q : Progress) (d e : List ℕ) → Sends (Sending.keepaliv
 left now p q d e s l h = room_after 3008 4 1444 1 _ p d q e (keepalive-within now p.common) s l (record { octets = h.octets; streams = h.streams })
 
 pub tick_attenuation-requires : goal.tick_attenuation-requires
-tick_attenuation-requires c = left c.args.reading _ _ _ _ c.send_keepalive_if_due-kept.ensures c.send_keepalive_if_due-kept.auto.packets c.requires
+tick_attenuation-requires c = left c.args.reading _ _ _ _ c.send_keepalive_if_due.ensures c.send_keepalive_if_due.auto.packets c.requires
 
 pub returns : goal.returns
 unfolding Sending.due_packets
 returns c = let a = c.args in
     sends-then 1444 1 _ (λ (d : Common). Sending.tick a.reading d.attenuation d) _ _ _ _ _ _ (tick-within _ _ _)
-    (left c.args.reading _ _ _ _ c.send_keepalive_if_due-kept.ensures c.send_keepalive_if_due-kept.auto.packets c.requires) c.send_keepalive_if_due-kept.auto.packets c.send_keepalive_if_due-kept.ensures
+    (left c.args.reading _ _ _ _ c.send_keepalive_if_due.ensures c.send_keepalive_if_due.auto.packets c.requires) c.send_keepalive_if_due.auto.packets c.send_keepalive_if_due.ensures
     c.tick_attenuation.ensures

@@ -9,11 +9,11 @@ use Rattle.keepalive.proofs.tick_attenuation.Goals as goal
 
 pub returns-in_default : goal.returns-in_default
 unfolding Sending.tick
-returns-in_default c = let a = c.args in sends-as (Sending.idle a.p.common) _ a.p _ _ _ (ap (λ (x : Option Controller). Sending.tick a.reading x a.p.common) (sym c.in_default.is)) (sends_none a.p _)
+returns-in_default c = let a = c.args in sends-as (Sending.idle a.p.now.common) _ a.p.now _ _ _ (ap (λ (x : Option Controller). Sending.tick a.reading x a.p.now.common) (sym c.in_default.is)) (sends_none a.p.now _)
 
-pub returns : goal.returns
+pub returns-in-Some : goal.returns-in-Some
 unfolding Sending.tick
-returns c = let a = c.args in
-    sends-as _ _ a.p _ _ _
-    (ap (λ (x : Stepped). Sending.stepped a.reading x a.p.common) c.tick-step.ensures
-    ∙ ap (λ (x : Option Controller). Sending.tick a.reading x a.p.common) (sym c.in-Some.is)) c.apply_step.ensures
+returns-in-Some c = let a = c.args in
+    sends-as _ _ a.p.now _ _ _
+    (ap (λ (x : Stepped). Sending.stepped a.reading x a.p.now.common) c.tick-step.ensures
+    ∙ ap (λ (x : Option Controller). Sending.tick a.reading x a.p.now.common) (sym c.in-Some.is)) c.apply_step.ensures

@@ -13,10 +13,10 @@ use Rattle.sending.proofs.send.send_stop.Goals as goal
 left : (p q : Progress) (d e : List ℕ) → Sends (Sending.send HighPriority false p.common) p d q e → length e ≡ length d → HasRoom 2888 2 p (length d) → HasRoom 1444 1 q (length e)
 left p q d e s l h = room_after 1444 1 1444 1 _ p d q e (send-within HighPriority false p.common) s l (record { octets = h.octets; streams = h.streams })
 
-pub send-requires : goal.send-requires
-send-requires c = left _ _ _ _ c.send-first.ensures c.send-first.auto.packets c.requires
+pub send-requires-2 : goal.send-requires-2
+send-requires-2 c = left _ _ _ _ c.send.ensures c.send.auto.packets c.requires
 
 pub returns : goal.returns
 unfolding Sending.stop_packets
 returns c = sends-then 1444 1 _ (λ (d : Common). Sending.send HighPriority false d) _ _ _ _ _ _ (send-within HighPriority false _)
-    (left _ _ _ _ c.send-first.ensures c.send-first.auto.packets c.requires) c.send-first.auto.packets c.send-first.ensures c.send.ensures
+    (left _ _ _ _ c.send.ensures c.send.auto.packets c.requires) c.send.auto.packets c.send.ensures c.send-2.ensures
