@@ -1,21 +1,22 @@
 -- A report of an event, from its parts. Assumes nothing.
 use Prim.Native.Nat.{ℕ, ◌*◌}
 use mathlib.Core.Path.{◌≡◌, ap, sym, ◌∙◌}
+use mathlib.Core.Logic.{◌⊎◌, inl, inr}
 use mathlib.Core.List.{List}
 use lib.Ieee.{Float}
 use mathlib.Core.Bool.{true, false}
 use Rattle.base.proofs.Picks.{pick-t, pick-f}
 use Rattle.sequence.specs.declared.SeqEvent.{SeqEvent}
-use Rattle.sequence.specs.declared.SeqEvent.TheVariants.{Gap, Restart}
+use Rattle.sequence.specs.declared.SeqEvent.TheVariants.{InOrder, Gap, Stale, Restart}
 use Rattle.health.specs.declared.InputHealthCounters.{InputHealthCounters}
 use Rattle.stream.specs.Elapsed.{restart_missing, below_half}
 use Rattle.model.specs.Parts.{with_missing, with_discontinuity}
-use Rattle.model.specs.Rules.{outage, missing_of, added, pending_after}
+use Rattle.model.specs.Rules.{missing_of, added, pending_after}
 use Rattle.model.specs.Hearing.{restart_of, counted}
 use Rattle.model.specs.declared.receiver.Receiver.{Receiver}
 use Rattle.model.specs.declared.receiver.Pending.{Pending}
-use Rattle.outage.specs.Report.{report_of}
-use Rattle.outage.specs.declared.report.Report.{Report}
+use Rattle.model.specs.Host.{Incoming}
+use Rattle.outage.specs.Report.{Report, report_of, missing_by, outage_of}
 
 module _ (rate : Float) (e : SeqEvent) (missing : ℕ) (p : Pending) (h : InputHealthCounters) where
   abbrev made : Pending → InputHealthCounters → Report
@@ -41,15 +42,20 @@ module _ (rate : Float) (k : ℕ) (p : Pending) (h : InputHealthCounters) (n : �
 
 -- ---- what the code reports of an event
 
-module _ (rate : Float) (event : SeqEvent) (r : Receiver) (h : InputHealthCounters) (reading later : ℕ) (waiting : List ℕ) where
+module _ (rate : Float) (event : SeqEvent) (r : Receiver) (h : InputHealthCounters) (i : Incoming) where
   abbrev told : SeqEvent → Report
-  told e = report_of rate e (missing_of e (restart_of rate r reading later waiting)) r.pending h
+  told e = report_of rate e (missing_by rate e r i) r.pending h
+
+  pub nothing-told : event ≡ InOrder ⊎ event ≡ Stale → made rate event 0 r.pending h r.pending h ≡ told event
+  unfolding report_of missing_of pending_after counted
+  nothing-told (inl e) = ap told (sym e)
+  nothing-told (inr e) = ap told (sym e)
 
   pub gap-told : (k : ℕ) (q : Report) → event ≡ Gap k → q ≡ report_of rate (Gap k) (238 * k) r.pending h → q ≡ told event
   unfolding missing_of
   gap-told k q e g = g ∙ ap told (sym e)
 
-  pub restart-told : (t : ℕ) (q : Report) → event ≡ Restart → t ≡ outage rate r.last_accepted_iq r.parked reading later r.tracker waiting
+  pub restart-told : (t : ℕ) (q : Report) → event ≡ Restart → t ≡ outage_of rate r i
       → q ≡ report_of rate Restart (restart_missing t rate) r.pending h → q ≡ told event
   unfolding missing_of restart_of
   restart-told t q e o g = g ∙ ap (λ (n : ℕ). report_of rate Restart (restart_missing n rate) r.pending h) o ∙ ap told (sym e)

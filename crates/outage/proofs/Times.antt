@@ -1,9 +1,8 @@
 -- Elapsed time and the park window, from the numbers that the code works them out of. Assumes nothing.
 use Rattle.std.specs.Prelude.{Option, Some, None}
 use Rattle.model.specs.declared.receiver.Parked.{Parked}
-use Prim.Native.Nat.{ℕ, ◌+◌, ◌-◌, ◌≤◌, ◌<◌, min}
+use Prim.Native.Nat.{ℕ, ◌+◌, ◌-◌, ◌≤◌, ◌<◌, min, max}
 use mathlib.Core.Path.{◌≡◌, sym, ap, ◌∙◌}
-use native.Mathlib.Nat.{max-eq_left, max-eq_right}
 use native.Mathlib.Omega.{arith}
 use lib.Ieee.{Float}
 use borrow.Author.Tests.{le-leb, lt-leb}
@@ -24,17 +23,12 @@ module _ (rate : Float) (accepted : ℕ) (w : Option Parked) (now : ℕ) where
     rest-is : rest ≡ now - p.from - account_time p.accounted rate
     rest-is = hr ∙ ap (λ (n : ℕ). n - time) hp ∙ ap (λ (n : ℕ). now - p.from - n) ht
 
-    pub parked-more : since < rest → rest ≡ elapsed rate accepted w now
+    pub parked-max : max since rest ≡ elapsed rate accepted w now
     unfolding elapsed
-    parked-more h =
-        let l : now - accepted ≤ now - p.from - account_time p.accounted rate = omega (arith, rest-is, hs) in
-        rest-is ∙ sym (max-eq_right l) ∙ ap (λ (x : Option Parked). elapsed rate accepted x now) (sym e)
-
-    pub parked-less : rest ≤ since → since ≡ elapsed rate accepted w now
-    unfolding elapsed
-    parked-less h =
-        let l : now - p.from - account_time p.accounted rate ≤ now - accepted = omega (arith, rest-is, hs) in
-        hs ∙ sym (max-eq_left l) ∙ ap (λ (x : Option Parked). elapsed rate accepted x now) (sym e)
+    parked-max =
+        ap (max since) rest-is
+        ∙ ap (λ (n : ℕ). max n (now - p.from - account_time p.accounted rate)) hs
+        ∙ sym (ap (λ (x : Option Parked). elapsed rate accepted x now) e)
 
 -- ---- the window after an accepted arrival
 

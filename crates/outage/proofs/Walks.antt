@@ -1,13 +1,14 @@
 -- The walk over the waiting numbers, one turn of the loop, and what it leaves of a restart's time. Assumes nothing.
-use Rattle.std.specs.Prelude.{Option, Some, None}
+use Rattle.std.specs.Prelude.{Option, Some, None, is_some}
 use Rattle.model.specs.declared.receiver.Parked.{Parked}
 use Prim.Native.Nat.{ℕ, ◌+◌, ◌-◌, ◌≤◌, ◌<◌, min}
-use mathlib.Core.Path.{◌≡◌, sym, ap, ◌∙◌}
+use mathlib.Core.Path.{◌≡◌, refl, sym, ap, ◌∙◌}
 use mathlib.Core.List.{List, ◌∷◌}
 use lib.ListN.{length, get_or, drop, drop_of_length-le}
 use lib.Seq.{drop-cons}
 use lib.Ieee.{Float}
 use native.Mathlib.Numerals.{add-one}
+use Rattle.std.proofs.Common.{true, false, true≢false}
 use Rattle.double.specs.Whole.{most}
 use Rattle.stream.specs.Elapsed.{jump_limit, covered_time}
 use Rattle.sequence.specs.Tracker.{observed}
@@ -31,16 +32,24 @@ module _ (limit : ℕ) (t : SeqTracker) (w : List ℕ) where
   walk-done i h = ap (backlog limit t) (drop_of_length-le w h)
 
 module _ (rate : Float) (accepted : ℕ) (window : Option Parked) (now later : ℕ) (t : SeqTracker) (waiting : List ℕ) where
-  pub outage-outside : (since : ℕ) → window ≡ None → since ≡ now - accepted → since ≡ outage rate accepted window now later t waiting
+  pub outage-outside : (since : ℕ) → is_some window ≡ false → since ≡ now - accepted → since ≡ outage rate accepted window now later t waiting
   unfolding outage elapsed
-  outage-outside since e h = h ∙ ap (λ (x : Option Parked). outage rate accepted x now later t waiting) (sym e)
+  outage-outside since e h = go window e
+    where
+      go : (w : Option Parked) → is_some w ≡ false → since ≡ outage rate accepted w now later t waiting
+      go None e = h
+      go (Some p) e = absurd (true≢false e)
 
-  pub outage-parked : (p : Parked) (bound total covered rest : ℕ) → window ≡ Some p → bound ≡ elapsed rate now window later
+  pub outage-parked : (bound total covered rest : ℕ) → is_some window ≡ true → bound ≡ elapsed rate now window later
       → total ≡ min (backlog (jump_limit bound rate) t waiting) most → covered ≡ covered_time total rate → rest ≡ bound - covered
       → rest ≡ outage rate accepted window now later t waiting
   unfolding outage uncovered
-  outage-parked p bound total covered rest e hb ht hc hr =
+  outage-parked bound total covered rest e hb ht hc hr =
       hr
       ∙ ap (λ (k : ℕ). bound - k) (hc ∙ ap (λ (k : ℕ). covered_time k rate) ht)
-      ∙ ap (λ (b : ℕ). uncovered rate b t waiting) (hb ∙ ap (λ (x : Option Parked). elapsed rate now x later) e)
-      ∙ ap (λ (x : Option Parked). outage rate accepted x now later t waiting) (sym e)
+      ∙ ap (λ (b : ℕ). uncovered rate b t waiting) hb
+      ∙ go window e
+    where
+      go : (w : Option Parked) → is_some w ≡ true → uncovered rate (elapsed rate now w later) t waiting ≡ outage rate accepted w now later t waiting
+      go None e = absurd (true≢false (sym e))
+      go (Some p) e = refl

@@ -2,11 +2,12 @@
 ghost use Rattle.std.specs.Prelude.{◌≡◌, min};
 ghost use Rattle.double.specs.Whole.{most};
 ghost use Rattle.stream.specs.Elapsed.{jump_limit};
+ghost use Rattle.model.specs.Gives.{incoming_of};
 ghost use Rattle.model.specs.Rules as Rules;
+ghost use Rattle.outage.specs.Report.{outage_of};
 
-use double::time::since;
-use double::whole::saturating_add;
-use model::receiver::Parked;
+use model::incoming::Incoming;
+use model::receiver::{Parked, Receiver};
 use sequence::{SeqEvent, SeqTracker};
 use stream::{account_time, covered_time, jump_limit};
 
@@ -14,18 +15,12 @@ use stream::{account_time, covered_time, jump_limit};
 pub fn unaccounted(rate: f64, accepted: u64, parked: Option<Parked>, now: u64) -> u64
     ensures { result ≡ Rules.elapsed rate accepted parked now }
 {
-    let since_last = since(now, accepted);
+    let since_last = now.saturating_sub(accepted);
     let Some(window) = parked else {
         return since_last;
     };
-    let in_window = since(
-        since(now, window.from),
-        account_time(window.accounted, rate),
-    );
-    if since_last < in_window {
-        return in_window;
-    }
-    since_last
+    let pause = now.saturating_sub(window.from);
+    since_last.max(pause.saturating_sub(account_time(window.accounted, rate)))
 }
 
 // A gap over the limit is a restart.
@@ -62,28 +57,20 @@ fn backlog_datagrams(bound: u64, rate: f64, tracker: SeqTracker, waiting: &[u32]
     let mut total: u64 = 0;
     for seq in waiting {
         let event = copy.observe(*seq);
-        total = saturating_add(total, datagrams(capped(plausible, event)));
+        total = total.saturating_add(datagrams(capped(plausible, event)));
     }
     total
 }
 
-// The time that a restart misses. In a window it is bounded by E at the later reading, less what waits covers: the tracker is as
-// this arrival left it.
-pub fn restart_outage(
-    rate: f64,
-    accepted: u64,
-    parked: Option<Parked>,
-    reading: u64,
-    later: u64,
-    tracker: SeqTracker,
-    waiting: &[u32],
-) -> u64
-    ensures { result ≡ Rules.outage rate accepted parked reading later tracker waiting.now }
+// The time that a restart misses, of a receiver whose tracker has heard it. In a window it is bounded by E at the later reading, less
+// what waits covers: the tracker is as this arrival left it.
+pub fn restart_outage(rate: f64, r: &Receiver, i: Incoming) -> u64
+    ensures { result ≡ outage_of rate r.now (incoming_of i.entry) }
 {
-    let Some(_) = parked else {
-        return since(reading, accepted);
-    };
-    let bound = unaccounted(rate, reading, parked, later);
-    let covered = covered_time(backlog_datagrams(bound, rate, tracker, waiting), rate);
-    since(bound, covered)
+    if r.parked.is_none() {
+        return i.reading.saturating_sub(r.last_accepted_iq);
+    }
+    let bound = unaccounted(rate, i.reading, r.parked, i.later);
+    let waits = backlog_datagrams(bound, rate, r.tracker, i.waiting);
+    bound.saturating_sub(covered_time(waits, rate))
 }

@@ -2,14 +2,12 @@
 ghost use Rattle.std.specs.Prelude.{◌≡◌};
 ghost use Rattle.model.specs.Rules as Rules;
 
-use double::whole::saturating_add;
-
 // So many samples more in a slot.
 pub fn add_pending(slot: &mut Option<u64>, n: u64)
     ensures { slot.new ≡ Rules.added slot.old n }
 {
     *slot = match *slot {
         None => Some(n),
-        Some(held) => Some(saturating_add(held, n)),
+        Some(held) => Some(held.saturating_add(n)),
     };
 }

@@ -1,106 +1,68 @@
 // What an accepted arrival misses, and where it is told and counted.
 ghost use Rattle.std.specs.Prelude.{◌≡◌, ◌*◌};
 ghost use Rattle.stream.specs.Elapsed.{restart_missing};
-ghost use Rattle.model.specs.Hearing.{restart_of};
-ghost use Rattle.model.specs.Parts as Parts;
-ghost use Rattle.model.specs.Rules as Rules;
-ghost use Rattle.outage.specs.Report.{report_of};
+ghost use Rattle.model.specs.Gives.{incoming_of};
+ghost use Rattle.model.specs.Parts.{with_pending};
+ghost use Rattle.outage.specs.Report.{report_of, missing_by};
 
 use super::elapsed::restart_outage;
 use super::pending::add_pending;
 use health::InputHealthCounters;
+use model::incoming::Incoming;
 use model::receiver::{Pending, Receiver};
 use sequence::SeqEvent;
 use stream::{SAMPLES_PER_DATAGRAM, below_half, restart_missing};
 
-#[derive(Clone, Copy)]
-pub struct Report {
-    pub missing: u64,
-    pub pending: Pending,
-    pub health: InputHealthCounters,
-}
-
 // A gap of k datagrams: k dropped, one gap, and 238 k missing.
-fn report_gap(rate: f64, k: u32, pending: Pending, health: InputHealthCounters) -> Report
-    ensures { result ≡ report_of rate (SeqEvent.Gap k) (238 * k) pending health }
+fn report_gap(rate: f64, k: u32, pending: &mut Pending, health: &mut InputHealthCounters) -> u64
+    ensures { record { missing = result; pending = pending.new; health = health.new } ≡
+        report_of rate (SeqEvent.Gap k) (238 * k) pending.old health.old }
 {
     let missing = SAMPLES_PER_DATAGRAM * (k as u64);
-    let mut health = health;
     health.record_dropped(k as u64);
     health.record_gap();
-    let mut pending = pending;
     if below_half(missing, rate) {
         add_pending(&mut pending.missing, missing);
     } else {
         add_pending(&mut pending.discontinuity, missing);
     }
-    Report {
-        missing,
-        pending,
-        health,
-    }
+    missing
 }
 
 // A restart after such an outage: one gap, and no dropped count.
-fn report_restart(rate: f64, outage: u64, pending: Pending, health: InputHealthCounters) -> Report
-    ensures { result ≡ report_of rate SeqEvent.Restart (restart_missing outage rate) pending health }
+fn report_restart(
+    rate: f64,
+    outage: u64,
+    pending: &mut Pending,
+    health: &mut InputHealthCounters,
+) -> u64
+    ensures { record { missing = result; pending = pending.new; health = health.new } ≡
+        report_of rate SeqEvent.Restart (restart_missing outage rate) pending.old health.old }
 {
     let missing = restart_missing(outage, rate);
-    let mut health = health;
     health.record_gap();
-    let mut pending = pending;
     add_pending(&mut pending.discontinuity, missing);
-    Report {
-        missing,
-        pending,
-        health,
-    }
-}
-
-// The time that a restart misses, of a receiver whose tracker has heard it.
-fn outage_after(rate: f64, r: Receiver, reading: u64, later: u64, waiting: &[u32]) -> u64
-    ensures { result ≡ Rules.outage rate r.last_accepted_iq r.parked reading later r.tracker waiting.now }
-{
-    restart_outage(
-        rate,
-        r.last_accepted_iq,
-        r.parked,
-        reading,
-        later,
-        r.tracker,
-        waiting,
-    )
+    missing
 }
 
 // What an event misses, told and counted, of a receiver whose tracker has heard it. Stale misses nothing.
 pub fn report_event(
     rate: f64,
     event: SeqEvent,
-    r: Receiver,
-    health: InputHealthCounters,
-    reading: u64,
-    later: u64,
-    waiting: &[u32],
-) -> Report
-    ensures { result ≡ report_of rate event (Rules.missing_of event (restart_of rate r reading later waiting.now)) r.pending
-        health }
+    r: &mut Receiver,
+    health: &mut InputHealthCounters,
+    i: Incoming,
+) -> u64
+    ensures told { record { missing = result; pending = r.new.pending; health = health.new } ≡
+        report_of rate event (missing_by rate event r.old (incoming_of i.entry)) r.old.pending health.old }
+    ensures kept { r.new ≡ with_pending r.old r.new.pending }
 {
-    let pending = r.pending;
     match event {
-        SeqEvent::InOrder => Report {
-            missing: 0,
-            pending,
-            health,
-        },
-        SeqEvent::Gap(k) => report_gap(rate, k, pending, health),
-        SeqEvent::Stale => Report {
-            missing: 0,
-            pending,
-            health,
-        },
+        SeqEvent::InOrder | SeqEvent::Stale => 0,
+        SeqEvent::Gap(k) => report_gap(rate, k, &mut r.pending, health),
         SeqEvent::Restart => {
-            let outage = outage_after(rate, r, reading, later, waiting);
-            report_restart(rate, outage, pending, health)
+            let outage = restart_outage(rate, r, i);
+            report_restart(rate, outage, &mut r.pending, health)
         }
     }
 }

@@ -2,8 +2,6 @@
 ghost use Rattle.std.specs.Prelude.{◌≡◌};
 ghost use Rattle.model.specs.Rules as Rules;
 
-use double::time::since;
-use double::whole::saturating_add;
 use model::receiver::Parked;
 use stream::SAMPLES_PER_DATAGRAM;
 
@@ -30,7 +28,7 @@ fn refilled(window: Option<Parked>, size: u64, taken: u64) -> Option<Parked>
 pub fn begun(window: Option<Parked>, size: u64, taken: u64, now: u64) -> Option<Parked>
     ensures { result ≡ Rules.begun size taken window now }
 {
-    if since(now, taken) >= PARKED_AFTER {
+    if now.saturating_sub(taken) >= PARKED_AFTER {
         return refilled(window, size, taken);
     }
     window
@@ -44,10 +42,10 @@ pub fn used(window: Option<Parked>, missing: u64) -> Option<Parked>
     if parked.left <= 1 {
         return None;
     }
-    let heard = saturating_add(parked.accounted, SAMPLES_PER_DATAGRAM);
+    let heard = parked.accounted.saturating_add(SAMPLES_PER_DATAGRAM);
     Some(Parked {
         from: parked.from,
-        accounted: saturating_add(heard, missing),
+        accounted: heard.saturating_add(missing),
         left: parked.left - 1,
     })
 }

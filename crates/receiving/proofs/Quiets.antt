@@ -1,32 +1,14 @@
--- When quiet began, and what it comes to, from the numbers that the code works them out of. Assumes nothing.
-use Rattle.std.specs.Prelude.{Option, Some, None}
-use Prim.Native.Nat.{ℕ, ◌-◌, ◌≤◌, ◌<◌, max}
+-- What quiet comes to, with its beginning as the code worked it out. Assumes nothing.
+use Prim.Native.Nat.{ℕ, ◌-◌, ◌≤◌, ◌<◌}
 use mathlib.Core.Path.{◌≡◌, sym, ap, ◌∙◌}
 use mathlib.Core.Bool.{true, false}
-use native.Mathlib.Nat.{max-zero, max-eq_left, max-eq_right, le_of_lt}
 use Rattle.base.proofs.Picks.{pick-t, pick-f}
 use Rattle.base.proofs.Tests.{was, due, not-due}
 use Rattle.stall.specs.Episode.{is_due}
-use Rattle.model.specs.State.{or_zero, quiet_since_of}
+use Rattle.model.specs.State.{quiet_since_of}
 use Rattle.model.specs.declared.receiver.Receiver.{Receiver}
 use Rattle.receiving.specs.Quiet.{quiet_at}
 use Rattle.receiving.specs.declared.read.Quiet.TheVariants.{Short, Soft, Hard}
-
-module _ (r : Receiver) where
-  pub no-anchor : r.reading.entered ≡ None → r.last_valid_iq ≡ quiet_since_of r
-  unfolding quiet_since_of
-  no-anchor e = sym (ap (λ (a : Option ℕ). max r.last_valid_iq (or_zero a)) e ∙ max-zero _)
-
-  module _ (t : ℕ) (e : r.reading.entered ≡ Some t) where
-    pub anchor-later : r.last_valid_iq < t → t ≡ quiet_since_of r
-    unfolding quiet_since_of
-    anchor-later h = sym (ap (λ (a : Option ℕ). max r.last_valid_iq (or_zero a)) e ∙ max-eq_right (le_of_lt h))
-
-    pub anchor-earlier : t ≤ r.last_valid_iq → r.last_valid_iq ≡ quiet_since_of r
-    unfolding quiet_since_of
-    anchor-earlier h = sym (ap (λ (a : Option ℕ). max r.last_valid_iq (or_zero a)) e ∙ max-eq_left h)
-
--- ---- what it comes to, with its beginning as the code worked it out
 
 module _ (r : Receiver) (now soft hard last : ℕ) (hl : last ≡ quiet_since_of r) where
   due-so : (v : mathlib.Core.Bool.Bool) → is_due r.stall last now soft hard ≡ v → is_due r.stall (quiet_since_of r) now soft hard ≡ v

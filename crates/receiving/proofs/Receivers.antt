@@ -1,15 +1,14 @@
--- A receiver whose read opens, and one whose read closes: after a Take, and at a soft stall. Assumes nothing.
+-- A receiver whose read opens, and one whose read closes after a Take. Assumes nothing.
 use Rattle.std.specs.Prelude.{Option}
 use Rattle.model.specs.declared.receiver.Parked.{Parked}
 use Prim.Native.Nat.{ℕ, ◌+◌}
 use mathlib.Core.Path.{◌≡◌, ap, ◌∙◌}
-use Rattle.stall.specs.Episode.{delivered, reported}
+use Rattle.stall.specs.Episode.{delivered}
 use Rattle.stall.specs.declared.StallEpisode.{StallEpisode}
 use Rattle.model.specs.Begin.{or_at, begun_by}
 use Rattle.model.specs.Pass.{shut}
 use Rattle.model.specs.Rules.{begun}
 use Rattle.model.specs.Take.{handed}
-use Rattle.model.specs.Parts.{with_stall}
 use Rattle.model.specs.declared.receiver.Receiver.{Receiver}
 
 -- a read opens with this anchor and this window
@@ -34,11 +33,11 @@ begun-so r size now anchor window ha hw =
     ap (λ (x : Option ℕ). opened_with r x window) ha ∙ ap (opened_with r (or_at r.reading.wait_entered now)) hw
 
 -- n pairs more are handed out, of a receiver whose read is closed
-abbrev taken_from : Receiver → ℕ → ℕ → ℕ → StallEpisode → Receiver
-taken_from q at now n stall =
+abbrev taken_from : Receiver → ℕ → ℕ → StallEpisode → Receiver
+taken_from q now n stall =
     record {
       tracker = q.tracker;
-      queue_pos = at + n;
+      queue_pos = q.queue_pos + n;
       reading = q.reading;
       parked = q.parked;
       pending = q.pending;
@@ -49,11 +48,8 @@ taken_from q at now n stall =
     }
 
 pub handed-so : (r : Receiver) (now n : ℕ) (q : Receiver) (stall : StallEpisode) → q ≡ shut r → stall ≡ delivered q.stall
-    → taken_from q r.queue_pos now n stall ≡ handed r now n
+    → taken_from q now n stall ≡ handed r now n
 unfolding handed
 handed-so r now n q stall e d =
-    ap (λ (x : StallEpisode). taken_from q r.queue_pos now n x) d
-    ∙ ap (λ (x : Receiver). taken_from x r.queue_pos now n (delivered x.stall)) e
-
-pub stalled-so : (r q : Receiver) (stall : StallEpisode) → q ≡ shut r → stall ≡ reported q.stall → with_stall q stall ≡ with_stall (shut r) (reported r.stall)
-stalled-so r q stall e d = ap (with_stall q) d ∙ ap (λ (x : Receiver). with_stall x (reported x.stall)) e
+    ap (λ (x : StallEpisode). taken_from q now n x) d
+    ∙ ap (λ (x : Receiver). taken_from x now n (delivered x.stall)) e

@@ -34,14 +34,13 @@ pub fn copy_out(q: &[f32], from: usize, n: usize, out: &mut [f32])
     }
 }
 
-// The receiver after n pairs were handed out, or as many as waited.
-pub fn handed(r: Receiver, now: u64, n: usize) -> Receiver
-    ensures { result ≡ Take.handed r now (min n (State.left r)) }
+// n pairs were handed out, or as many as waited.
+pub fn handed(r: &mut Receiver, now: u64, n: usize)
+    ensures { r.new ≡ Take.handed r.old now (min n (State.left r.old)) }
 {
-    let pairs = n.min(left(r));
-    let mut next = shut(r);
-    next.stall.note_delivery();
-    next.queue_pos = r.queue_pos + pairs;
-    next.read_returned = now;
-    next
+    let pairs = n.min(left(*r));
+    shut(r);
+    r.stall.note_delivery();
+    r.queue_pos += pairs;
+    r.read_returned = now;
 }

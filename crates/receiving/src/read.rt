@@ -7,7 +7,6 @@ ghost use Rattle.model.specs.Pass as Pass;
 ghost use Rattle.model.specs.State as State;
 ghost use Rattle.receiving.specs.Quiet.{quiet_at};
 
-use double::time::since;
 use model::receiver::{Reading, Receiver};
 use outage::window::begun;
 
@@ -15,33 +14,21 @@ use outage::window::begun;
 pub fn not_reading(closed: bool, r: Receiver) -> bool
     ensures { result ≡ (closed || not (State.is_open r)) }
 {
-    if closed {
-        return true;
-    }
-    r.reading.entered.is_none()
+    closed || r.reading.entered.is_none()
 }
 
 // 10 of Begin: the session is closed, or a read is open.
 pub fn not_idle(closed: bool, r: Receiver) -> bool
     ensures { result ≡ (closed || State.is_open r) }
 {
-    if closed {
-        return true;
-    }
-    r.reading.entered.is_some()
+    closed || r.reading.entered.is_some()
 }
 
 // When quiet began: at the last valid I/Q datagram or at the read's anchor, whichever is later.
 pub fn quiet_since(r: Receiver) -> u64
     ensures { result ≡ State.quiet_since_of r }
 {
-    let Some(t) = r.reading.entered else {
-        return r.last_valid_iq;
-    };
-    if r.last_valid_iq < t {
-        return t;
-    }
-    r.last_valid_iq
+    r.last_valid_iq.max(r.reading.entered.unwrap_or(0))
 }
 
 // What quiet comes to. No closure chooses the step: what each comes to is the pass's own, and is written there beside the others.
@@ -59,32 +46,28 @@ pub fn quiet_at(r: Receiver, now: u64, soft_after: u64, stall_after: u64) -> Qui
     ensures { result ≡ quiet_at r now soft_after stall_after }
 {
     let last = quiet_since(r);
-    let stall = r.stall;
-    if stall.due(last, now, soft_after, stall_after) {
+    if r.stall.due(last, now, soft_after, stall_after) {
         return Quiet::Soft;
     }
-    if since(now, last) >= stall_after {
+    if now.saturating_sub(last) >= stall_after {
         return Quiet::Hard;
     }
     Quiet::Short
 }
 
 // The read closes; its wait anchor stays.
-pub fn shut(r: Receiver) -> Receiver
-    ensures { result ≡ Pass.shut r }
+pub fn shut(r: &mut Receiver)
+    ensures { r.new ≡ Pass.shut r.old }
 {
-    let mut next = r;
-    next.reading.entered = None;
-    next
+    r.reading.entered = None;
 }
 
 // A soft stall is reported and the read is closed; the last Take's time does not move.
-pub fn stalled(r: Receiver) -> Receiver
-    ensures { result ≡ with_stall (Pass.shut r) (reported r.stall) }
+pub fn stalled(r: &mut Receiver)
+    ensures { r.new ≡ with_stall (Pass.shut r.old) (reported r.old.stall) }
 {
-    let mut next = shut(r);
-    next.stall.report();
-    next
+    shut(r);
+    r.stall.report();
 }
 
 // An anchor that is set stays; an empty one becomes this reading.
@@ -95,15 +78,13 @@ fn or_at(anchor: Option<u64>, now: u64) -> Option<u64>
 }
 
 // A read opens: the window after a pause, the wait anchor, and the read's own copy of it.
-pub fn begun_by(r: Receiver, size: u64, now: u64) -> Receiver
-    ensures { result ≡ Begin.begun_by size r now }
+pub fn begun_by(r: &mut Receiver, size: u64, now: u64)
+    ensures { r.new ≡ Begin.begun_by size r.old now }
 {
     let anchor = or_at(r.reading.wait_entered, now);
-    let mut next = r;
-    next.reading = Reading {
+    r.reading = Reading {
         wait_entered: anchor,
         entered: anchor,
     };
-    next.parked = begun(r.parked, size, r.read_returned, now);
-    next
+    r.parked = begun(r.parked, size, r.read_returned, now);
 }

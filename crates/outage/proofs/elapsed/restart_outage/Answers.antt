@@ -2,10 +2,13 @@
 use Rattle.outage.proofs.Walks.{outage-outside, outage-parked}
 use Rattle.outage.proofs.elapsed.restart_outage.Goals as goal
 
-pub returns-in_default : goal.returns-in_default
-returns-in_default c = let a = c.args in outage-outside a.rate a.accepted a.parked a.reading a.later a.tracker a.waiting.now _ c.in_default.is c.since.ensures
+pub returns-then-is_none : goal.returns-then-is_none
+returns-then-is_none c = let r = c.args.r.now in
+    let i = c.args.i in
+    outage-outside c.args.rate r.last_accepted_iq r.parked i.reading i.later r.tracker i.waiting.now _ c.if-is_none.ensures c.saturating_sub.ensures
 
 pub returns : goal.returns
-returns c = let a = c.args in
-    outage-parked a.rate a.accepted a.parked a.reading a.later a.tracker a.waiting.now _ _ _ _ _ c.in-Some.is
-    c.unaccounted-bound.ensures c.backlog_datagrams.ensures c.covered_time-covered.ensures c.since-2.ensures
+returns c = let r = c.args.r.now in
+    let i = c.args.i in
+    outage-parked c.args.rate r.last_accepted_iq r.parked i.reading i.later r.tracker i.waiting.now _ _ _ _ c.if-is_none.ensures
+    c.unaccounted-bound.ensures c.backlog_datagrams-waits.ensures c.covered_time.ensures c.saturating_sub-2.ensures

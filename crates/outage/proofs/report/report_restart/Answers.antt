@@ -12,5 +12,5 @@ use Rattle.outage.proofs.report.report_restart.Goals as goal
 pub returns : goal.returns
 unfolding pending_after counted
 returns c = let a = c.args in
-    reported a.rate Restart c.restart_missing-missing.result a.pending a.health _ _ (ap (with_discontinuity a.pending) c.add_pending.ensures) c.record_gap.ensures
-    ∙ ap (λ (m : ℕ). report_of a.rate Restart m a.pending a.health) c.restart_missing-missing.ensures
+    reported a.rate Restart c.restart_missing-missing.result a.pending.now a.health.now _ _ (ap (with_discontinuity a.pending.now) c.add_pending.ensures) c.record_gap.ensures
+    ∙ ap (λ (m : ℕ). report_of a.rate Restart m a.pending.now a.health.now) c.restart_missing-missing.ensures

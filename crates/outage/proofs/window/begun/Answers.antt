@@ -7,9 +7,9 @@ use borrow.Author.Tests.{le-leb, lt-leb}
 use Rattle.model.specs.Rules as Rules
 use Rattle.outage.proofs.window.begun.Goals as goal
 
-pub returns-then-since-ge-PARKED_AFTER : goal.returns-then-since-ge-PARKED_AFTER
+pub returns-then-saturating_sub-ge-PARKED_AFTER : goal.returns-then-saturating_sub-ge-PARKED_AFTER
 unfolding Rules.begun
-returns-then-since-ge-PARKED_AFTER c = let a = c.args in c.refilled.ensures ∙ sym (pick-t _ _ _ (le-leb 100000000 (a.now - a.taken) (omega arith)))
+returns-then-saturating_sub-ge-PARKED_AFTER c = let a = c.args in c.refilled.ensures ∙ sym (pick-t _ _ _ (le-leb 100000000 (a.now - a.taken) (omega arith)))
 
 pub returns : goal.returns
 unfolding Rules.begun

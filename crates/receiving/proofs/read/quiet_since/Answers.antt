@@ -1,12 +1,14 @@
 -- `receiving::read::quiet_since` meets its contract. Assumes nothing.
-use Rattle.receiving.proofs.Quiets.{no-anchor, anchor-later, anchor-earlier}
+use Rattle.std.specs.Prelude.{ℕ, max, ◌≡◌, Option, Some, None}
+use Rattle.std.specs.Option.{unwrap_or}
+use Rattle.std.proofs.Common.{refl, ap, ◌∙◌}
+use Rattle.model.specs.State.{or_zero, quiet_since_of}
 use Rattle.receiving.proofs.read.quiet_since.Goals as goal
 
-pub returns-in_default : goal.returns-in_default
-returns-in_default c = no-anchor c.args.r c.in_default.is
-
-pub returns-then-r-t : goal.returns-then-r-t
-returns-then-r-t c = anchor-later c.args.r _ c.in-Some.is c.if-r-t.true
+so : (anchor : Option ℕ) → unwrap_or anchor 0 ≡ or_zero anchor
+so None = refl
+so (Some t) = refl
 
 pub returns : goal.returns
-returns c = anchor-earlier c.args.r _ c.in-Some.is c.if-r-t.false
+unfolding quiet_since_of
+returns c = let r = c.args.r in c.max.ensures ∙ ap (max r.last_valid_iq) (c.unwrap_or.ensures ∙ so r.reading.entered)
