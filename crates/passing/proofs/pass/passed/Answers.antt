@@ -1,8 +1,5 @@
 -- `passing::pass::passed` meets its contract: Ready, the stalls, then what is due. Assumes nothing.
-use Rattle.model.specs.Answer.{pass_answer}
-use Rattle.std.specs.Prelude.{Ok}
-use Rattle.model.specs.declared.answer.PassAnswer.TheVariants.{Ready, SoftStall, HardStall}
-use mathlib.Core.Path.{sym, ap, ◌∙◌}
+use mathlib.Core.Path.{refl, sym, ap, ◌∙◌}
 use mathlib.Core.List.{[]}
 use Rattle.base.proofs.Tests.{was}
 use Rattle.model.specs.Answer.{done, soft_stall, hard_stall}
@@ -11,29 +8,29 @@ use Rattle.model.specs.Pass as Pass
 use Rattle.model.specs.Parts.{with_receiver}
 use Rattle.model.specs.declared.receiver.Receiver.{Receiver}
 use Rattle.receiving.specs.declared.read.Quiet.TheVariants.{Soft, Hard, Short}
-use Rattle.sending.proofs.Givings.{answer-told, gives_as}
+use Rattle.sending.proofs.Givings.{gives-told, gives_as}
 use Rattle.passing.proofs.Passes.{pass-ready, pass-quiet}
 use Rattle.passing.proofs.pass.passed.Goals as goal
 
 pub returns-then-waits : goal.returns-then-waits
-returns-then-waits c = let a = c.args in answer-told pass_answer a.s a.packets.now _ (Ok Ready) _ c.without_packets.ensures (pass-ready a.s a.reading a.packets.now (was c.waits.ensures c.if-waits.true))
+returns-then-waits c = let a = c.args in gives-told _ _ _ _ _ refl (pass-ready a.s.now a.reading a.packets.now (was c.waits.ensures c.if-waits.true))
 
 pub returns-in-Soft : goal.returns-in-Soft
 unfolding Pass.stall_soft
 returns-in-Soft c = let a = c.args in
-    answer-told pass_answer _ a.packets.now _ (Ok SoftStall) _ c.read_closed.ensures
-    (pass-quiet a.s a.reading a.packets.now (was c.waits.ensures c.if-waits.false) _ c.quiet_at-quiet.ensures Soft c.in-Soft.is
-    ∙ ap (λ (x : Receiver). replied (done soft_stall) [] a.packets.now [] (with_receiver a.s x)) (sym c.stalled.ensures))
+    gives-told _ _ _ _ _ refl
+    (pass-quiet a.s.now a.reading a.packets.now (was c.waits.ensures c.if-waits.false) _ c.quiet_at-quiet.ensures Soft c.in-Soft.is
+    ∙ ap (λ (x : Receiver). replied (done soft_stall) [] a.packets.now [] (with_receiver a.s.now x)) (sym c.stalled.ensures))
 
 pub returns-in-Hard : goal.returns-in-Hard
 unfolding Pass.stall_hard
 returns-in-Hard c = let a = c.args in
-    answer-told pass_answer _ a.packets.now _ (Ok HardStall) _ c.read_closed-in-Hard.ensures
-    (pass-quiet a.s a.reading a.packets.now (was c.waits.ensures c.if-waits.false) _ c.quiet_at-quiet.ensures Hard c.in-Hard.is
-    ∙ ap (λ (x : Receiver). replied (done hard_stall) [] a.packets.now [] (with_receiver a.s x)) (sym c.shut.ensures))
+    gives-told _ _ _ _ _ refl
+    (pass-quiet a.s.now a.reading a.packets.now (was c.waits.ensures c.if-waits.false) _ c.quiet_at-quiet.ensures Hard c.in-Hard.is
+    ∙ ap (λ (x : Receiver). replied (done hard_stall) [] a.packets.now [] (with_receiver a.s.now x)) (sym c.shut.ensures))
 
 pub returns-in-Short : goal.returns-in-Short
 returns-in-Short c = let a = c.args in
     gives_as _ _ _ _ _ _
-    (pass-quiet a.s a.reading a.packets.now (was c.waits.ensures c.if-waits.false) _ c.quiet_at-quiet.ensures Short c.in-Short.is)
+    (pass-quiet a.s.now a.reading a.packets.now (was c.waits.ensures c.if-waits.false) _ c.quiet_at-quiet.ensures Short c.in-Short.is)
     c.sent.ensures
