@@ -1,44 +1,40 @@
 // Close: run is turned off, by two high priority packets.
-ghost use Rattle.std.specs.Prelude.{◌≤◌, ◌≡◌, [], length};
+ghost use Rattle.std.specs.Prelude.{◌≤◌, length, Ok};
 ghost use Rattle.model.specs.Answer.{close_answer};
 ghost use Rattle.model.specs.Close as Close;
-ghost use Rattle.model.specs.Command.{streams_as};
-ghost use Rattle.model.specs.Gives.{Gives};
+ghost use Rattle.model.specs.Gives.{Gives, close_streams};
 
-use model::answer::{Answered, Refusal};
+use model::answer::Refusal;
+use model::command::Streams;
 use model::session::Session;
-use sending::send::{send_stop, start, without_packets};
+use sending::send::{send_stop, start};
 
 // Two high priority packets.
 const CLOSE_LEN: usize = 2888;
 
 // The packets are written, and the session is closed; the queue, the slots and the stall flag stay, and no clock moves.
-fn stop(s: Session, packets: &mut [u8]) -> Answered<()>
+fn stop(s: &mut Session, packets: &mut [u8]) -> Streams
     requires { 2888 ≤ length packets.old }
-    ensures { Gives (close_answer result.answer) result.streams packets.new result.session (Close.stop s packets.old) }
+    ensures { Gives (close_answer (Ok result)) result packets.new s.new (Close.stop s.old packets.old) }
 {
-    let sent = send_stop(start(s.common), packets);
-    let mut next = s;
-    next.common = sent.common;
-    next.common.closed = true;
-    Answered {
-        answer: Ok(()),
-        streams: sent.streams,
-        session: next,
-    }
+    let mut p = start(s.common);
+    send_stop(&mut p, packets);
+    s.common = p.common;
+    s.common.closed = true;
+    p.streams
 }
 
-// Closes the session, with at least 2888 octets lent for packets. Ok: send the two packets that `streams` lists, which stop the
+// Closes the session, with at least 2888 octets lent for packets. Ok: send the two packets that these streams list, which stop the
 // radio; the drains can still be asked, every other call is refused by 10. NotNow (10, closed already) and NoPacketRoom (15) refuse,
 // and change nothing. What waits and is not taken before is lost to the caller.
-pub fn close(s: Session, packets: &mut [u8]) -> Answered<()>
-    ensures { Gives (close_answer result.answer) result.streams packets.new result.session (Close.close s packets.old) }
+pub fn close(s: &mut Session, packets: &mut [u8]) -> Result<Streams, Refusal>
+    ensures { Gives (close_answer result) (close_streams result) packets.new s.new (Close.close s.old packets.old) }
 {
     if s.common.closed {
-        return without_packets(Err(Refusal::NotNow), s);
+        return Err(Refusal::NotNow);
     }
     if packets.len() < CLOSE_LEN {
-        return without_packets(Err(Refusal::NoPacketRoom), s);
+        return Err(Refusal::NoPacketRoom);
     }
-    stop(s, packets)
+    Ok(stop(s, packets))
 }

@@ -5,43 +5,39 @@ ghost use Rattle.model.specs.State.{replied};
 ghost use Rattle.model.specs.Take as Take;
 ghost use Rattle.model.specs.Gives.{joined};
 
-use model::answer::{Answered, Refusal};
+use model::answer::Refusal;
 use model::session::Session;
 use receiving::queue::{copy_out, handed, left, waits};
 use receiving::read::not_reading;
-use sending::send::without_packets;
 use stream::F32_PER_DATAGRAM;
 
 // Hands out waiting samples, at `reading`: `samples` are the 476 f32 lent beside the session, `buffer` gets I, Q pairs from its front,
 // as many as it has room for. Ok: so many pairs; the read is closed. What is left waits for the next read's Take. NotNow (10),
 // ReadingFell (11), NoSampleRoom (16: fewer than 2 f32) and NothingWaits (17) refuse, and change nothing.
 pub fn take(
-    s: Session,
+    s: &mut Session,
     samples: &[f32; F32_PER_DATAGRAM],
     reading: u64,
     buffer: &mut [f32],
-) -> Answered<usize>
-    ensures { replied (take_answer result.answer) [] [] buffer.new (joined result.session samples.now) ≡
-        Take.take_out (joined s samples.now) reading buffer.old }
+) -> Result<usize, Refusal>
+    ensures { replied (take_answer result) [] [] buffer.new (joined s.new samples.now) ≡
+        Take.take_out (joined s.old samples.now) reading buffer.old }
 {
-    let receiver = s.receiver;
-    if not_reading(s.common.closed, receiver) {
-        return without_packets(Err(Refusal::NotNow), s);
+    if not_reading(s.common.closed, s.receiver) {
+        return Err(Refusal::NotNow);
     }
     if reading < s.common.last_reading {
-        return without_packets(Err(Refusal::ReadingFell), s);
+        return Err(Refusal::ReadingFell);
     }
     if buffer.len() < 2 {
-        return without_packets(Err(Refusal::NoSampleRoom), s);
+        return Err(Refusal::NoSampleRoom);
     }
-    if !waits(receiver) {
-        return without_packets(Err(Refusal::NothingWaits), s);
+    if !waits(s.receiver) {
+        return Err(Refusal::NothingWaits);
     }
-    let n = (buffer.len() / 2).min(left(receiver));
-    copy_out(samples, 2 * receiver.queue_pos, 2 * n, buffer);
-    let after = handed(receiver, reading, n);
-    let mut next = s;
-    next.common.last_reading = reading;
-    next.receiver = after;
-    without_packets(Ok(n), next)
+    let n = (buffer.len() / 2).min(left(s.receiver));
+    copy_out(samples, 2 * s.receiver.queue_pos, 2 * n, buffer);
+    s.common.last_reading = reading;
+    handed(&mut s.receiver, reading, n);
+    Ok(n)
 }

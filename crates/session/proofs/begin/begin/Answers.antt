@@ -3,31 +3,28 @@ use mathlib.Core.Path.{sym, ap, ◌∙◌}
 use mathlib.Core.List.{[]}
 use Rattle.base.proofs.Picks.{pick-t, pick-f}
 use Rattle.base.proofs.Tests.{was}
-use Rattle.model.specs.Answer.{begin_answer, done}
+use Rattle.model.specs.Answer.{done}
 use Rattle.model.specs.Answer as Answer
 use Rattle.model.specs.State.{replied}
 use Rattle.model.specs.Parts.{with_last_reading}
 use Rattle.model.specs.Begin as Begin
 use Rattle.model.specs.declared.receiver.Receiver.{Receiver}
 use borrow.Author.Tests.{lt-ltb, le-ltb}
-use Rattle.sending.proofs.Givings.{answer-replied}
 use Rattle.session.proofs.begin.begin.Goals as goal
 
 pub returns-then-not_idle : goal.returns-then-not_idle
 unfolding Begin.begin
-returns-then-not_idle c =
-    answer-replied begin_answer _ [] (λ t. t) [] _ _ _ c.without_packets.ensures (sym (pick-t _ _ _ (was c.not_idle.ensures c.if-not_idle.true)))
+returns-then-not_idle c = sym (pick-t _ _ _ (was c.not_idle.ensures c.if-not_idle.true))
 
 pub returns-then-now-s : goal.returns-then-now-s
 unfolding Begin.begin
-returns-then-now-s c =
-    answer-replied begin_answer _ [] (λ t. t) [] _ _ _ c.without_packets-then-now-s.ensures (sym (pick-f _ _ _ (was c.not_idle.ensures c.if-not_idle.false) ∙ pick-t _ _ _ (lt-ltb _ _ c.if-now-s.true)))
+returns-then-now-s c = sym (pick-f _ _ _ (was c.not_idle.ensures c.if-not_idle.false) ∙ pick-t _ _ _ (lt-ltb _ _ c.if-now-s.true))
 
 pub returns : goal.returns
 unfolding Begin.begin
-returns c = let a = c.args in
-    answer-replied begin_answer _ [] (λ t. t) [] _ _ _ c.without_packets-2.ensures
-    (ap
-    (λ (q : Receiver). replied (done Answer.begun) [] [] [] (record { common = with_last_reading a.s.common a.now; receiver = q }))
-    c.begun_by-opened.ensures
-    ∙ sym (pick-f _ _ _ (was c.not_idle.ensures c.if-not_idle.false) ∙ pick-f _ _ _ (le-ltb _ _ c.if-now-s.false)))
+returns c =
+    let a = c.args in
+    ap
+    (λ (q : Receiver). replied (done Answer.begun) [] [] [] (record { common = with_last_reading a.s.now.common a.now; receiver = q }))
+    c.begun_by.ensures
+    ∙ sym (pick-f _ _ _ (was c.not_idle.ensures c.if-not_idle.false) ∙ pick-f _ _ _ (le-ltb _ _ c.if-now-s.false))

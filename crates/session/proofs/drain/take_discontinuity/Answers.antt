@@ -4,4 +4,4 @@ use Rattle.session.proofs.drain.take_discontinuity.Goals as goal
 
 pub returns : goal.returns
 unfolding Drain.take_discontinuity
-returns c = simp (c.take-held.ensures.value, c.take-held.ensures.after)
+returns c = simp (c.take.ensures.value, c.take.ensures.after)

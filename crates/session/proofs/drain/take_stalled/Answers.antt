@@ -11,5 +11,5 @@ use Rattle.session.proofs.drain.take_stalled.Goals as goal
 pub returns : goal.returns
 unfolding Drain.take_stalled
 returns c =
-    let s = c.args.s in
-    ap (λ (t : Taken). replied (flag t.stalled) [] [] [] (with_receiver s (with_stall s.receiver t.episode))) c.take-held.ensures
+    let s = c.args.s.now in
+    ap (λ (t : Taken). replied (flag t.stalled) [] [] [] (with_receiver s (with_stall s.receiver t.episode))) c.take.ensures

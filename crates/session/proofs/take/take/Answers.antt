@@ -7,34 +7,25 @@ use native.Mathlib.Omega.{arith}
 use borrow.Author.Tests.{lt-ltb, le-ltb}
 use Rattle.base.proofs.Picks.{pick-t, pick-f}
 use Rattle.base.proofs.Tests.{was}
-use Rattle.std.specs.Prelude.{[]}
-use Rattle.model.specs.Answer.{take_answer}
 use Rattle.model.specs.State as State
 use Rattle.model.specs.Take as Take
 use Rattle.model.specs.Gives.{joined}
-use Rattle.sending.proofs.Givings.{answer-replied}
 use Rattle.session.proofs.Takes.{within, taken_out}
 use Rattle.session.proofs.take.take.Goals as goal
 
 pub returns-then-not_reading : goal.returns-then-not_reading
 unfolding Take.take_out
 returns-then-not_reading c =
-    let a = c.args in
-    answer-replied take_answer _ [] (λ t. joined t a.samples.now) _ _ _ _ c.without_packets.ensures
     (sym (pick-t _ _ _ (was c.not_reading.ensures c.if-not_reading.true)))
 
 pub returns-then-reading-s : goal.returns-then-reading-s
 unfolding Take.take_out
 returns-then-reading-s c =
-    let a = c.args in
-    answer-replied take_answer _ [] (λ t. joined t a.samples.now) _ _ _ _ c.without_packets-then-reading-s.ensures
     (sym (pick-f _ _ _ (was c.not_reading.ensures c.if-not_reading.false) ∙ pick-t _ _ _ (lt-ltb _ _ c.if-reading-s.true)))
 
 pub returns-then-buffer-lt2 : goal.returns-then-buffer-lt2
 unfolding Take.take_out
 returns-then-buffer-lt2 c =
-    let a = c.args in
-    answer-replied take_answer _ [] (λ t. joined t a.samples.now) _ _ _ _ c.without_packets-then-buffer-lt2.ensures
     (sym
     (pick-f _ _ _ (was c.not_reading.ensures c.if-not_reading.false) ∙ pick-f _ _ _ (le-ltb _ _ c.if-reading-s.false)
     ∙ pick-t _ _ _ (lt-ltb (length c.args.buffer.now) 2 c.if-buffer-lt2.true)))
@@ -42,15 +33,13 @@ returns-then-buffer-lt2 c =
 pub returns-then-not-waits : goal.returns-then-not-waits
 unfolding Take.take_out
 returns-then-not-waits c =
-    let a = c.args in
-    answer-replied take_answer _ [] (λ t. joined t a.samples.now) _ _ _ _ c.without_packets-then-not-waits.ensures
     (sym
     (pick-f _ _ _ (was c.not_reading.ensures c.if-not_reading.false) ∙ pick-f _ _ _ (le-ltb _ _ c.if-reading-s.false)
     ∙ pick-f _ _ _ (le-ltb (length c.args.buffer.now) 2 c.if-buffer-lt2.false)
     ∙ pick-t _ _ _ (ap not (was c.waits.ensures c.if-not-waits.true))))
 
-pub overflow_mul-receiver : goal.overflow_mul-receiver
-overflow_mul-receiver c = let p = (within _ (was c.waits.ensures c.if-not-waits.false)) in record { fits = omega (arith, p) }
+pub overflow_mul-s : goal.overflow_mul-s
+overflow_mul-s c = let p = (within _ (was c.waits.ensures c.if-not-waits.false)) in record { fits = omega (arith, p) }
 
 pub overflow_mul-n : goal.overflow_mul-n
 unfolding State.left
@@ -59,7 +48,6 @@ overflow_mul-n c = record { fits = omega (arith, c.min-n.ensures, c.left.ensures
 pub returns : goal.returns
 returns c =
     let a = c.args in
-    answer-replied take_answer _ [] (λ t. joined t a.samples.now) _ _ _ _ c.without_packets-2.ensures
-    (taken_out (joined a.s a.samples.now) a.reading a.buffer.now _ _ _ (was c.not_reading.ensures c.if-not_reading.false)
+    taken_out (joined a.s.now a.samples.now) a.reading a.buffer.now _ _ _ (was c.not_reading.ensures c.if-not_reading.false)
     (le-ltb _ _ c.if-reading-s.false) c.if-buffer-lt2.false (was c.waits.ensures c.if-not-waits.false)
-    (c.min-n.ensures ∙ ap (min _) c.left.ensures) c.copy_out.ensures c.handed-after.ensures)
+    (c.min-n.ensures ∙ ap (min _) c.left.ensures) c.copy_out.ensures c.handed.ensures
