@@ -26,9 +26,8 @@ use Rattle.model.specs.Hearing.{accepted_by, left_out, counted}
 use Rattle.model.specs.Arrival.{without_packets, heard_common, hear, heard_as, heard_iq, overload, heard_status, with_one_more, heard_malformed, arrived, at_later, route, arrival}
 use Rattle.model.specs.declared.receiver.Receiver.{Receiver}
 use Rattle.model.specs.declared.session.Common.{Common}
-use Rattle.model.specs.declared.sender.Sender.{Sender}
 use Rattle.model.specs.declared.session.Session.{Session}
-use Rattle.model.specs.Gives.{incoming, arrived_by}
+use Rattle.model.specs.Gives.{arrived_by}
 use Rattle.receiving.specs.Hears.{Hears}
 use Rattle.arriving.specs.Route.{route_of}
 use Rattle.receiving.specs.declared.hear.Heard.{Heard}
@@ -83,16 +82,13 @@ module _ (st : State) (i : Incoming) (d : List ℕ) where
 
 -- ---- by what the code routed it as
 
-module _ (st : State) (reading later : ℕ) (from : Sender) (octets waiting d : List ℕ) (r : Route)
-    (h : route_of r ≡ routed st.session.common.settings.radio_ip st.session.common.settings.port from octets) where
-  abbrev i : Incoming
-  i = incoming reading later from octets waiting
-
+module _ (st : State) (i : Incoming) (d : List ℕ) (r : Route)
+    (h : route_of r ≡ routed st.session.common.settings.radio_ip st.session.common.settings.port i.from i.octets) where
   pub by-route : (k : Route) → r ≡ k → arrived_by st i d ≡ arrived st i d (route_of k)
   by-route k e = ap (arrived st i d) (sym h ∙ ap route_of e)
 
-  pub iq-header : (count : ℕ) → r ≡ Iq count → header_told octets ≡ gives (count ∷ [])
-  iq-header count k = sym (right-header count octets _ _ from (sym (ap route_of k) ∙ h))
+  pub iq-header : (count : ℕ) → r ≡ Iq count → header_told i.octets ≡ gives (count ∷ [])
+  iq-header count k = sym (right-header count i.octets _ _ i.from (sym (ap route_of k) ∙ h))
 
   abbrev rate : Float
   rate = st.session.common.settings.sample_rate_hz
@@ -103,32 +99,33 @@ module _ (st : State) (reading later : ℕ) (from : Sender) (octets waiting d : 
       keeping samples (without_packets (heard q.event q.missing) d (record { common = heard_common health st.session.common; receiver = after }))
 
   -- what the receiver heard is what the definition tells: of a stale one, and of an accepted one
-  heard-so : (count : ℕ) (q : Heard) (e : List Float) → Hears rate st.session.receiver st.session.common.health st.samples reading later count octets waiting q e
-      → stepped-so q q.health e q.receiver ≡ heard_iq st i d count
+  heard-so : (count : ℕ) (q : Heard) (after : Receiver) (health : InputHealthCounters) (e : List Float)
+      → Hears rate st.session.receiver st.session.common.health st.samples count i q after health e
+      → stepped-so q health e after ≡ heard_iq st i d count
   unfolding heard_iq heard_as hear pick
-  heard-so count q e g =
-      ap (λ (x : List Float). stepped-so q q.health x q.receiver) g.samples
-      ∙ ap (λ (x : Receiver). stepped-so q q.health (pick (is_stale q.event) st.samples (samples_of octets)) x) g.receiver
-      ∙ ap (λ (x : InputHealthCounters). stepped-so q x (pick (is_stale q.event) st.samples (samples_of octets)) (heard_receiver (is_stale q.event))) g.health
+  heard-so count q after health e g =
+      ap (λ (x : List Float). stepped-so q health x after) g.samples
+      ∙ ap (λ (x : Receiver). stepped-so q health (pick (is_stale q.event) st.samples (samples_of i.octets)) x) g.receiver
+      ∙ ap (λ (x : InputHealthCounters). stepped-so q x (pick (is_stale q.event) st.samples (samples_of i.octets)) (heard_receiver (is_stale q.event))) g.health
       ∙ by-stale (is_stale q.event)
       ∙ ap (λ (m : ℕ). hear st i d count q.event m) g.missing
       ∙ ap (λ (x : SeqEvent). heard_as st i d count x) g.event
     where
       heard_receiver : Bool → Receiver
-      heard_receiver b = pick b (left_out st.session.receiver reading count) (accepted_by rate st.session.receiver reading count q.event q.missing)
+      heard_receiver b = pick b (left_out st.session.receiver i.now count) (accepted_by rate st.session.receiver i.now count q.event q.missing)
 
       by-stale : (b : Bool)
-          → stepped-so q (counted q.event st.session.common.health) (pick b st.samples (samples_of octets)) (heard_receiver b)
-          ≡ pick b (stepped-so q (counted q.event st.session.common.health) st.samples (left_out st.session.receiver reading count))
-          (stepped-so q (counted q.event st.session.common.health) (samples_of octets) (accepted_by rate st.session.receiver reading count q.event q.missing))
+          → stepped-so q (counted q.event st.session.common.health) (pick b st.samples (samples_of i.octets)) (heard_receiver b)
+          ≡ pick b (stepped-so q (counted q.event st.session.common.health) st.samples (left_out st.session.receiver i.now count))
+          (stepped-so q (counted q.event st.session.common.health) (samples_of i.octets) (accepted_by rate st.session.receiver i.now count q.event q.missing))
       by-stale true = refl
       by-stale false = refl
 
-  pub by-iq : (count : ℕ) (q : Heard) (e : List Float) → r ≡ Iq count
-      → Hears rate st.session.receiver st.session.common.health st.samples reading later count octets waiting q e
-      → arrived_by st i d ≡ stepped-so q q.health e q.receiver
+  pub by-iq : (count : ℕ) (q : Heard) (after : Receiver) (health : InputHealthCounters) (e : List Float) → r ≡ Iq count
+      → Hears rate st.session.receiver st.session.common.health st.samples count i q after health e
+      → arrived_by st i d ≡ stepped-so q health e after
   unfolding arrived
-  by-iq count q e k g = by-route (Iq count) k ∙ sym (heard-so count q e g)
+  by-iq count q after health e k g = by-route (Iq count) k ∙ sym (heard-so count q after health e g)
 
 -- ---- a status packet
 
@@ -154,11 +151,14 @@ module _ (s : Session) (i : Incoming) (d : List ℕ) where
 -- ---- a malformed datagram
 
 module _ (s : Session) (d : List ℕ) (c : Common) (e : c ≡ with_one_more s.common) where
-  limit_is : (b : Bool) → leb s.common.settings.max_consecutive_malformed c.consecutive_malformed ≡ b
-      → leb s.common.settings.max_consecutive_malformed (with_one_more s.common).consecutive_malformed ≡ b
-  limit_is b h = ap (λ (x : Common). leb s.common.settings.max_consecutive_malformed x.consecutive_malformed) (sym e) ∙ h
+  abbrev limit : Common → ℕ
+  limit x = x.settings.max_consecutive_malformed
 
-  pub malformed-limit : (q : Receiver) → s.common.settings.max_consecutive_malformed ≤ c.consecutive_malformed → q ≡ shut s.receiver
+  limit_is : (b : Bool) → leb (limit c) c.consecutive_malformed ≡ b → leb (limit s.common) (with_one_more s.common).consecutive_malformed ≡ b
+  unfolding with_one_more
+  limit_is b h = ap (λ (x : Common). leb (limit x) x.consecutive_malformed) (sym e) ∙ h
+
+  pub malformed-limit : (q : Receiver) → limit c ≤ c.consecutive_malformed → q ≡ shut s.receiver
       → heard_malformed s d ≡ without_packets (done malformed_limit) d (with_receiver (with_common s c) q)
   unfolding heard_malformed
   malformed-limit q l h =
@@ -166,6 +166,6 @@ module _ (s : Session) (d : List ℕ) (c : Common) (e : c ≡ with_one_more s.co
       ∙ ap (λ (x : Common). without_packets (done malformed_limit) d (with_receiver (with_common s x) (shut s.receiver))) (sym e)
       ∙ ap (λ (x : Receiver). without_packets (done malformed_limit) d (with_receiver (with_common s c) x)) (sym h)
 
-  pub malformed-on : c.consecutive_malformed < s.common.settings.max_consecutive_malformed → heard_malformed s d ≡ without_packets (done malformed) d (with_common s c)
+  pub malformed-on : c.consecutive_malformed < limit c → heard_malformed s d ≡ without_packets (done malformed) d (with_common s c)
   unfolding heard_malformed
   malformed-on l = pick-f _ _ _ (limit_is false (lt-leb _ _ l)) ∙ ap (λ (x : Common). without_packets (done malformed) d (with_common s x)) (sym e)

@@ -1,3 +1,2 @@
 -- The definitions that the contracts of `arriving` cite beside model's.
 pub mod Route
-pub mod Hears

@@ -1,21 +1,18 @@
 // Arrival: malformed, ignored, status or valid I/Q.
-ghost use Rattle.std.specs.Prelude.{◌≡◌, [], length, ◌≤◌};
+ghost use Rattle.std.specs.Prelude.{◌≤◌, length, Ok};
 ghost use Rattle.model.specs.Answer.{arrival_answer};
 ghost use Rattle.model.specs.Arrival as Arrival;
-ghost use Rattle.model.specs.Command.{streams_as};
-ghost use Rattle.model.specs.Gives.{Gives, joined, incoming, arrived_by};
+ghost use Rattle.model.specs.Gives.{Gives, arrival_streams, joined, incoming_of, arrived_by};
 
-use super::heard::heard_iq;
 use super::malformed::malformed;
 use super::route::{Route, routed};
 use super::status::handle_status;
-use model::answer::{Answered, ArrivalAnswer, Refusal};
-use model::sender::Sender;
+use model::answer::{ArrivalAnswer, Refusal};
+use model::incoming::Incoming;
 use model::session::Session;
 use receiving::hear::hear;
 use receiving::queue::waits;
 use receiving::read::not_reading;
-use sending::send::without_packets;
 use stream::{F32_PER_DATAGRAM, MAX_BUFFERED_DATAGRAMS};
 
 // A step's packet.
@@ -23,86 +20,71 @@ const ARRIVAL_LEN: usize = 1444;
 
 // After every refusal, of a session whose last reading is the later one.
 fn arrived(
-    s: Session,
+    s: &mut Session,
     samples: &mut [f32; F32_PER_DATAGRAM],
-    reading: u64,
-    later: u64,
-    from: Sender,
-    datagram: &[u8],
-    waiting: &[u32],
+    i: Incoming,
     packets: &mut [u8],
-) -> Answered<ArrivalAnswer>
+) -> ArrivalAnswer
     requires { 1444 ≤ length packets.old }
-    ensures { Gives (arrival_answer result.answer) result.streams packets.new (joined result.session samples.new)
-        (arrived_by (joined s samples.old)
-        (incoming reading later from datagram.now waiting.now) packets.old) }
+    ensures { Gives (arrival_answer (Ok result)) (arrival_streams (Ok result)) packets.new (joined s.new samples.new)
+        (arrived_by (joined s.old samples.old) (incoming_of i.entry) packets.old) }
 {
     let settings = s.common.settings;
-    let kind = routed(settings.radio_ip, settings.port, from, datagram);
-    match kind {
+    match routed(settings.radio_ip, settings.port, i.from, i.datagram) {
         Route::Iq(count) => {
-            let receiver = s.receiver;
-            let health = s.common.health;
             let heard = hear(
-                settings.sample_rate_hz,
-                receiver,
-                health,
+                &mut s.receiver,
+                &mut s.common.health,
                 samples,
-                reading,
-                later,
+                settings.sample_rate_hz,
                 count,
-                datagram,
-                waiting,
+                i,
             );
-            heard_iq(s, heard)
+            // valid I/Q zeroes the consecutive malformed count
+            s.common.consecutive_malformed = 0;
+            ArrivalAnswer::Iq {
+                event: heard.event,
+                missing: heard.missing,
+            }
         }
-        Route::Status => handle_status(s, reading, later, datagram, packets),
-        Route::Ignored => without_packets(Ok(ArrivalAnswer::Ignored), s),
+        Route::Status => handle_status(s, i, packets),
+        Route::Ignored => ArrivalAnswer::Ignored,
         Route::Malformed => malformed(s),
     }
 }
 
-// A datagram has come, to an open read in which no samples wait: `reading` is when, `later` when it is looked at, `from` its sender,
-// `waiting` the numbers of the datagrams that wait behind it, at most 8192. Lend the session's 476 f32, and at least 1444 octets for
-// packets, also where none is written. Iq: the event and what it misses; unless it is Stale, samples wait now, take them. Status: send
-// the packet if `streams` lists one. Ignored, Malformed: go on. MalformedLimit: the read is closed, begin another. NotNow (10),
-// ReadingFell (11), SamplesWait (12), LaterFell (13), TooManyWaiting (14) and NoPacketRoom (15) refuse, and change nothing.
+// A datagram has come, to an open read in which no samples wait (`Incoming`); at most 8192 numbers may wait behind it. Lend the
+// session's 476 f32, and at least 1444 octets for packets, also where none is written. Iq: the event and what it misses; unless it is
+// Stale, samples wait now, take them. Status: send the packet if its streams list one. Ignored, Malformed: go on. MalformedLimit: the
+// read is closed, begin another. NotNow (10), ReadingFell (11), SamplesWait (12), LaterFell (13), TooManyWaiting (14) and NoPacketRoom
+// (15) refuse, and change nothing.
 pub fn arrival(
-    s: Session,
+    s: &mut Session,
     samples: &mut [f32; F32_PER_DATAGRAM],
-    reading: u64,
-    later: u64,
-    from: Sender,
-    datagram: &[u8],
-    waiting: &[u32],
+    i: Incoming,
     packets: &mut [u8],
-) -> Answered<ArrivalAnswer>
-    ensures { Gives (arrival_answer result.answer) result.streams packets.new (joined result.session samples.new)
-        (Arrival.arrival (joined s samples.old)
-        (incoming reading later from datagram.now waiting.now) packets.old) }
+) -> Result<ArrivalAnswer, Refusal>
+    ensures { Gives (arrival_answer result) (arrival_streams result) packets.new (joined s.new samples.new)
+        (Arrival.arrival (joined s.old samples.old) (incoming_of i.entry) packets.old) }
 {
-    let receiver = s.receiver;
-    if not_reading(s.common.closed, receiver) {
-        return without_packets(Err(Refusal::NotNow), s);
+    if not_reading(s.common.closed, s.receiver) {
+        return Err(Refusal::NotNow);
     }
-    if reading < s.common.last_reading {
-        return without_packets(Err(Refusal::ReadingFell), s);
+    if i.reading < s.common.last_reading {
+        return Err(Refusal::ReadingFell);
     }
-    if waits(receiver) {
-        return without_packets(Err(Refusal::SamplesWait), s);
+    if waits(s.receiver) {
+        return Err(Refusal::SamplesWait);
     }
-    if later < reading {
-        return without_packets(Err(Refusal::LaterFell), s);
+    if i.later < i.reading {
+        return Err(Refusal::LaterFell);
     }
-    if waiting.len() as u64 > MAX_BUFFERED_DATAGRAMS {
-        return without_packets(Err(Refusal::TooManyWaiting), s);
+    if i.waiting.len() as u64 > MAX_BUFFERED_DATAGRAMS {
+        return Err(Refusal::TooManyWaiting);
     }
     if packets.len() < ARRIVAL_LEN {
-        return without_packets(Err(Refusal::NoPacketRoom), s);
+        return Err(Refusal::NoPacketRoom);
     }
-    let mut next = s;
-    next.common.last_reading = later;
-    arrived(
-        next, samples, reading, later, from, datagram, waiting, packets,
-    )
+    s.common.last_reading = i.later;
+    Ok(arrived(s, samples, i, packets))
 }

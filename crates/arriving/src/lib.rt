@@ -3,7 +3,6 @@
 #![tactic(auto)]
 
 pub mod arrival;
-mod heard;
 mod malformed;
 mod route;
 mod status;

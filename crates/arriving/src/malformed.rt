@@ -1,37 +1,29 @@
 // A malformed datagram: counted, and past the limit the read closes.
-ghost use Rattle.std.specs.Prelude.{ℕ, ◌+◌, min, ◌≡◌, List};
+ghost use Rattle.std.specs.Prelude.{ℕ, ◌≡◌, List, Ok};
 ghost use Rattle.model.specs.Answer.{arrival_answer};
 ghost use Rattle.model.specs.Arrival.{with_one_more, heard_malformed};
-ghost use Rattle.model.specs.Gives.{Gives};
+ghost use Rattle.model.specs.Gives.{Gives, arrival_streams};
 
-use model::answer::{Answered, ArrivalAnswer};
+use model::answer::ArrivalAnswer;
 use model::session::{Common, Session};
 use receiving::read::shut;
-use sending::send::without_packets;
 
 // One more malformed: the consecutive count saturates.
-fn note_malformed(c: Common) -> Common
-    ensures { result ≡ with_one_more c }
+fn note_malformed(c: &mut Common)
+    ensures { c.new ≡ with_one_more c.old }
 {
-    let mut next = c;
-    next.health.record_malformed();
-    next.consecutive_malformed = c.consecutive_malformed.saturating_add(1);
-    next
+    c.health.record_malformed();
+    c.consecutive_malformed = c.consecutive_malformed.saturating_add(1);
 }
 
 // Where the consecutive count is now the limit or more, the read closes.
-pub(crate) fn malformed(s: Session) -> Answered<ArrivalAnswer>
-    ensures { (d : List ℕ) → Gives (arrival_answer result.answer) result.streams d result.session (heard_malformed s d) }
+pub(crate) fn malformed(s: &mut Session) -> ArrivalAnswer
+    ensures { (d : List ℕ) → Gives (arrival_answer (Ok result)) (arrival_streams (Ok result)) d s.new (heard_malformed s.old d) }
 {
-    let common = s.common;
-    let counted = note_malformed(common);
-    let mut next = s;
-    next.common = counted;
-    if counted.consecutive_malformed >= common.settings.max_consecutive_malformed {
-        let receiver = s.receiver;
-        let closed = shut(receiver);
-        next.receiver = closed;
-        return without_packets(Ok(ArrivalAnswer::MalformedLimit), next);
+    note_malformed(&mut s.common);
+    if s.common.consecutive_malformed < s.common.settings.max_consecutive_malformed {
+        return ArrivalAnswer::Malformed;
     }
-    without_packets(Ok(ArrivalAnswer::Malformed), next)
+    shut(&mut s.receiver);
+    ArrivalAnswer::MalformedLimit
 }

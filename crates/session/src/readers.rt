@@ -10,44 +10,41 @@ use receiving::queue::left;
 use sending::send::level;
 
 // Datagrams lost, gaps and malformed datagrams, each modulo 2^64.
-pub fn gap_stats(s: Session) -> InputHealthCounters
-    ensures { result ≡ s.common.health }
+pub fn gap_stats(s: &Session) -> InputHealthCounters
+    ensures { result ≡ s.now.common.health }
 {
     s.common.health
 }
 
 // The samples of the datagrams lost, modulo 2^64.
-pub fn loss_total(s: Session) -> u64
-    ensures { result ≡ loss_total s.common.health }
+pub fn loss_total(s: &Session) -> u64
+    ensures { result ≡ loss_total s.now.common.health }
 {
-    let health = s.common.health;
-    health.loss_total()
+    s.common.health.loss_total()
 }
 
-pub fn sample_rate(s: Session) -> f64
-    ensures { result ≡ s.common.settings.sample_rate_hz }
+pub fn sample_rate(s: &Session) -> f64
+    ensures { result ≡ s.now.common.settings.sample_rate_hz }
 {
     s.common.settings.sample_rate_hz
 }
 
-pub fn center_freq_hz(s: Session) -> f64
-    ensures { result ≡ s.common.settings.center_freq_hz }
+pub fn center_freq_hz(s: &Session) -> f64
+    ensures { result ≡ s.now.common.settings.center_freq_hz }
 {
     s.common.settings.center_freq_hz
 }
 
 // The attenuation of the moment in dB: 0 with attenuation off.
-pub fn attenuation_db(s: Session) -> u8
-    ensures { result ≡ Sending.level s.common.attenuation }
+pub fn attenuation_db(s: &Session) -> u8
+    ensures { result ≡ Sending.level s.now.common.attenuation }
 {
-    let common = s.common;
-    level(common)
+    level(s.common)
 }
 
 // How many samples wait, as I, Q pairs.
-pub fn waiting_samples(s: Session) -> usize
-    ensures { result ≡ State.left s.receiver }
+pub fn waiting_samples(s: &Session) -> usize
+    ensures { result ≡ State.left s.now.receiver }
 {
-    let receiver = s.receiver;
-    left(receiver)
+    left(s.receiver)
 }

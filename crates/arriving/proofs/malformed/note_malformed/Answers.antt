@@ -4,4 +4,4 @@ use Rattle.arriving.proofs.malformed.note_malformed.Goals as goal
 
 pub returns : goal.returns
 unfolding with_one_more
-returns c = simp (c.saturating_add.ensures, c.record_malformed.ensures)
+returns c = simp (c.saturating_add-c.ensures, c.record_malformed.ensures)
