@@ -100,7 +100,7 @@ pub fn of_pass(a: Result<PassAnswer, Refusal>) -> Code
         Ok(PassAnswer::Ready) => word(READY),
         Ok(PassAnswer::SoftStall) => word(SOFT_STALL),
         Ok(PassAnswer::HardStall) => word(HARD_STALL),
-        Ok(PassAnswer::Sent) => word(SENT),
+        Ok(PassAnswer::Sent(_)) => word(SENT),
         Err(r) => refused(r),
     }
 }
@@ -133,7 +133,7 @@ pub fn of_arrival(a: Result<ArrivalAnswer, Refusal>) -> Code
 {
     match a {
         Ok(ArrivalAnswer::Ignored) => word(IGNORED),
-        Ok(ArrivalAnswer::Status) => word(STATUS),
+        Ok(ArrivalAnswer::Status(_)) => word(STATUS),
         Ok(ArrivalAnswer::Malformed) => word(MALFORMED),
         Ok(ArrivalAnswer::MalformedLimit) => word(MALFORMED_LIMIT),
         Ok(ArrivalAnswer::Iq { event, missing }) => of_event(event, missing),
@@ -153,11 +153,11 @@ pub fn of_take(a: Result<usize, Refusal>) -> Code
     }
 }
 
-pub fn of_close(a: Result<(), Refusal>) -> Code
+pub fn of_close(a: Result<Streams, Refusal>) -> Code
     ensures { result ≡ coded (Answer.close_answer a) }
 {
     match a {
-        Ok(()) => word(CLOSED),
+        Ok(_) => word(CLOSED),
         Err(r) => refused(r),
     }
 }

@@ -4,6 +4,8 @@ use Rattle.base.specs.Pick.{pick}
 use Rattle.model.specs.Host.{Call, Begin, Pass, Arrival, Take, Close, TakeMissing, TakeDiscontinuity, TakeStalled}
 use Rattle.model.specs.declared.sender.Sender.{Sender}
 use Rattle.model.specs.declared.sender.Sender.TheVariants.{V4, V6}
+use Rattle.encoding.specs.declared.kind.Kind.{Kind}
+use Rattle.encoding.specs.declared.kind.Kind.TheVariants as kind
 use Rattle.encoding.specs.declared.words.Words.{Words}
 use Rattle.encoding.specs.declared.words.Amounts.{Amounts}
 
@@ -20,6 +22,17 @@ words_at calls at =
       numbers = get_or calls (at + 6) 0;
       places = get_or calls (at + 7) 0;
     }
+
+-- the number of a kind
+abbrev pub kind_number : Kind → ℕ
+kind_number kind.Begin = 0
+kind_number kind.Pass = 1
+kind_number kind.Arrival = 2
+kind_number kind.Take = 3
+kind_number kind.Close = 4
+kind_number kind.TakeMissing = 5
+kind_number kind.TakeDiscontinuity = 6
+kind_number kind.TakeStalled = 7
 
 -- in place of an IPv4 address: the sender has an IPv6 one
 abbrev pub ipv6 : ℕ

@@ -2,6 +2,8 @@
 ghost use Rattle.std.specs.Prelude.{◌≡◌, ◌+◌, ◌≤◌, length};
 ghost use Rattle.encoding.specs.Words as Encoding;
 
+use super::kind::Kind;
+
 // The numbers of a call. Those that its kind has no use for are not read.
 pub const CALL_LEN: usize = 8;
 
@@ -22,29 +24,12 @@ pub const NUMBERS: usize = 6;
 
 pub const PLACES: usize = 7;
 
-// The kinds: numbers, since a list comes in as numbers.
-pub const BEGIN: u64 = 0;
-
-pub const PASS: u64 = 1;
-
-pub const ARRIVAL: u64 = 2;
-
-pub const TAKE: u64 = 3;
-
-pub const CLOSE: u64 = 4;
-
-pub const TAKE_MISSING: u64 = 5;
-
-pub const TAKE_DISCONTINUITY: u64 = 6;
-
-pub const TAKE_STALLED: u64 = 7;
-
 // In place of an IPv4 address: the sender has an IPv6 one.
 pub const IPV6: u64 = 4294967296;
 
 #[derive(Clone, Copy)]
 pub struct Words {
-    // BEGIN to TAKE_STALLED
+    // that of a Kind
     pub kind: u64,
     pub reading: u64,
     // an Arrival's later reading
@@ -99,42 +84,33 @@ pub fn words_at(calls: &[u64], at: usize) -> Words
 pub fn is_call(w: Words) -> bool
     ensures { result ≡ Encoding.is_call w }
 {
-    if w.kind > TAKE_STALLED {
-        return false;
-    }
-    if w.address > IPV6 {
-        return false;
-    }
-    w.port <= 65535
-}
-
-fn lends_packets(kind: u64) -> bool
-    ensures { result ≡ Encoding.lends_packets kind }
-{
-    if kind == PASS {
-        return true;
-    }
-    if kind == ARRIVAL {
-        return true;
-    }
-    kind == CLOSE
-}
-
-fn if_used(used: bool, n: u64) -> usize
-    ensures { result ≡ Encoding.if_used used n }
-{
-    if used { n as usize } else { 0 }
+    Kind::of(w.kind).is_some() && w.address <= IPV6 && w.port <= 65535
 }
 
 // What a call takes.
 pub fn taken_by(w: Words) -> Amounts
     ensures { result ≡ Encoding.taken_by w }
 {
-    Amounts {
-        octets: if_used(w.kind == ARRIVAL, w.octets),
-        numbers: if_used(w.kind == ARRIVAL, w.numbers),
-        packets: if_used(lends_packets(w.kind), w.places),
-        places: if_used(w.kind == TAKE, w.places),
+    let Some(kind) = Kind::of(w.kind) else {
+        return nothing();
+    };
+    let places = w.places as usize;
+    match kind {
+        Kind::Arrival => Amounts {
+            octets: w.octets as usize,
+            numbers: w.numbers as usize,
+            packets: places,
+            places: 0,
+        },
+        Kind::Pass | Kind::Close => Amounts {
+            packets: places,
+            ..nothing()
+        },
+        Kind::Take => Amounts {
+            places,
+            ..nothing()
+        },
+        Kind::Begin | Kind::TakeMissing | Kind::TakeDiscontinuity | Kind::TakeStalled => nothing(),
     }
 }
 

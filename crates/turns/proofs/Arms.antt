@@ -25,34 +25,36 @@ use Rattle.model.specs.Gives.{Gives, joined, incoming}
 use Rattle.answers.specs.Code.{coded}
 use Rattle.turns.specs.Reply.{Replies, Keeps}
 use Rattle.answers.specs.declared.Code.{Code}
+use Rattle.turns.specs.declared.call.Replied.{Replied}
 
 pub none_of : {A : Type 0} (l : List A) → length l ≡ 0 → l ≡ []
 none_of [] h = refl
 none_of (x ∷ l) h = absurd (omega arith)
 
 -- nothing was written
-pub plain : (s : Session) (c : Call) (a : Answer) (t : Session) (x : Step Session) (k : Code) (l : Streams) → replied a [] [] [] t ≡ x
-    → ((samples : List Float) → step (joined s samples) c ≡ keeping samples x) → k ≡ coded a → l ≡ streams_as []
-    → Keeps (record { answer = k; streams = l; session = t }) s [] c
-plain s c a t x k l e h p q =
+pub plain : (s : Session) (c : Call) (a : Answer) (t : Session) (x : Step Session) (r : Replied) (k : Code) → replied a [] [] [] t ≡ x
+    → ((samples : List Float) → step (joined s samples) c ≡ keeping samples x) → r ≡ record { answer = k; streams = streams_as [] } → k ≡ coded a
+    → Keeps r s t [] c
+plain s c a t x r k e h p q =
     record {
       replies = λ samples.
-          subst (λ (y : Step State). Replies (record { answer = k; streams = l; session = t }) samples [] [] y) (ap (keeping samples) e ∙ sym (h samples))
-          (record { answers = p; lists = q; writes = refl; hands = refl; leaves = refl });
+          subst (λ (y : Step State). Replies r t samples [] [] y) (ap (keeping samples) e ∙ sym (h samples))
+          (subst (λ (y : Replied). Replies y t samples [] [] (keeping samples (replied a [] [] [] t))) (sym p)
+          (record { answers = q; lists = refl; writes = refl; hands = refl; leaves = refl }));
     }
 
 -- packets were lent
-pub wrote : (s : Session) (c : Call) (a : Answer) (l : Streams) (d : List ℕ) (t : Session) (x : Step Session) (k : Code) → Gives a l d t x
-    → ((samples : List Float) → (step (joined s samples) c ≡ keeping samples x) × (lent_buffer c ≡ [])) → k ≡ coded a
-    → Keeps (record { answer = k; streams = l; session = t }) s d c
-wrote s c a l d t x k g h p =
+pub wrote : (s : Session) (c : Call) (a : Answer) (l : Streams) (d : List ℕ) (t : Session) (x : Step Session) (k : Code) (m : Streams) → Gives a l d t x
+    → ((samples : List Float) → (step (joined s samples) c ≡ keeping samples x) × (lent_buffer c ≡ [])) → k ≡ coded a → m ≡ l
+    → Keeps (record { answer = k; streams = m }) s t d c
+wrote s c a l d t x k m g h p q =
     record {
       replies = λ samples.
           let e = (h samples).0 in
           let b : [] ≡ (keeping samples x).reply.buffer =
           sym (none_of (keeping samples x).reply.buffer (ap (λ (y : Step State). length y.reply.buffer) (sym e) ∙ (room-suffices (joined s samples) c).buffer ∙ ap length (h samples).1)) in
-          subst (λ (y : Step State). Replies (record { answer = k; streams = l; session = t }) samples d [] y) (sym e)
-          (record { answers = p ∙ ap coded g.answers; lists = g.lists; writes = g.writes; hands = b; leaves = ap (λ (u : Session). joined u samples) g.leaves });
+          subst (λ (y : Step State). Replies (record { answer = k; streams = m }) t samples d [] y) (sym e)
+          (record { answers = p ∙ ap coded g.answers; lists = q ∙ g.lists; writes = g.writes; hands = b; leaves = ap (λ (u : Session). joined u samples) g.leaves });
     }
 
 module _ (s : Session) where
@@ -82,22 +84,23 @@ module _ (s : Session) where
 
   -- samples and packets were lent
   pub arrived : (samples : List Float) (reading later : ℕ) (from sent : Sender) (o n p : List ℕ) (a : Answer) (l : Streams) (d : List ℕ) (t : Session)
-      (e : List Float) (k : Code) → from ≡ sent → Gives a l d (joined t e) (Arrival.arrival (joined s samples) (incoming reading later from o n) p) → k ≡ coded a
-      → Replies (record { answer = k; streams = l; session = t }) e d [] (step (joined s samples) (Arrival (incoming reading later sent o n) p))
+      (e : List Float) (k : Code) (m : Streams) → from ≡ sent → Gives a l d (joined t e) (Arrival.arrival (joined s samples) (incoming reading later from o n) p) → k ≡ coded a
+      → m ≡ l → Replies (record { answer = k; streams = m }) t e d [] (step (joined s samples) (Arrival (incoming reading later sent o n) p))
   unfolding step
-  arrived samples reading later from sent o n p a l d t e k f g h =
+  arrived samples reading later from sent o n p a l d t e k m f g h q =
       let c = Arrival (incoming reading later from o n) p in
       let b : [] ≡ (step (joined s samples) c).reply.buffer = sym (none_of (step (joined s samples) c).reply.buffer (room-suffices (joined s samples) c).buffer) in
       subst
-      (λ (x : Sender). Replies (record { answer = k; streams = l; session = t }) e d [] (step (joined s samples) (Arrival (incoming reading later x o n) p)))
+      (λ (x : Sender). Replies (record { answer = k; streams = m }) t e d [] (step (joined s samples) (Arrival (incoming reading later x o n) p)))
       f
-      (record { answers = h ∙ ap coded g.answers; lists = g.lists; writes = g.writes; hands = b; leaves = g.leaves })
+      (record { answers = h ∙ ap coded g.answers; lists = q ∙ g.lists; writes = g.writes; hands = b; leaves = g.leaves })
 
   -- samples and a buffer were lent
-  pub took : (samples : List Float) (reading : ℕ) (places : List Float) (a : Answer) (out : List Float) (t : Session) (k : Code) (l : Streams)
-      → replied a [] [] out (joined t samples) ≡ Take.take_out (joined s samples) reading places → k ≡ coded a → l ≡ streams_as []
-      → Replies (record { answer = k; streams = l; session = t }) samples [] out (step (joined s samples) (Take reading places))
+  pub took : (samples : List Float) (reading : ℕ) (places : List Float) (a : Answer) (out : List Float) (t : Session) (r : Replied) (k : Code)
+      → replied a [] [] out (joined t samples) ≡ Take.take_out (joined s samples) reading places → r ≡ record { answer = k; streams = streams_as [] }
+      → k ≡ coded a → Replies r t samples [] out (step (joined s samples) (Take reading places))
   unfolding step
-  took samples reading places a out t k l e p q =
-      subst (λ (y : Step State). Replies (record { answer = k; streams = l; session = t }) samples [] out y) e
-      (record { answers = p; lists = q; writes = refl; hands = refl; leaves = refl })
+  took samples reading places a out t r k e p q =
+      subst (λ (y : Step State). Replies r t samples [] out y) e
+      (subst (λ (y : Replied). Replies y t samples [] out (replied a [] [] out (joined t samples))) (sym p)
+      (record { answers = q; lists = refl; writes = refl; hands = refl; leaves = refl }))

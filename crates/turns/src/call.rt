@@ -3,54 +3,62 @@ ghost use Rattle.std.specs.Prelude.{◌≡◌, true, [], ◌≤◌, eqb};
 ghost use Rattle.base.specs.Pick.{pick};
 ghost use Rattle.model.specs.Host.{Begin, Pass, Arrival, Take, Close, TakeMissing, TakeDiscontinuity, TakeStalled};
 ghost use Rattle.model.specs.Session.{step};
-ghost use Rattle.model.specs.Gives.{joined, incoming};
+ghost use Rattle.model.specs.Command.{streams_as};
+ghost use Rattle.model.specs.Gives.{joined, incoming, pass_streams, arrival_streams, close_streams};
 ghost use Rattle.encoding.specs.Words.{sender_of, is_call, lends_packets, call_of};
 ghost use Rattle.turns.specs.Reply.{Replies, Keeps};
 
 use answers::{Code, of_arrival, of_begin, of_close, of_flag, of_pass, of_slot, of_take};
-use encoding::words::{
-    ARRIVAL, BEGIN, CLOSE, IPV6, PASS, TAKE, TAKE_DISCONTINUITY, TAKE_MISSING, Words,
-};
+use encoding::kind::Kind;
+use encoding::lent::Call;
+use encoding::words::IPV6;
+use model::answer::{ArrivalAnswer, PassAnswer, Refusal};
 use model::command::Streams;
+use model::incoming::Incoming;
 use model::sender::Sender;
 use model::session::Session;
 use sending::send::no_streams;
 use stream::F32_PER_DATAGRAM;
 
-// What a call gave: its answer, the streams that it wrote, and the session after it.
+// What a call gave: its answer, and the streams that it wrote.
 #[derive(Clone, Copy)]
 pub(crate) struct Replied {
     pub(crate) answer: Code,
     pub(crate) streams: Streams,
-    pub(crate) session: Session,
 }
 
-fn begin(s: Session, now: u64) -> Replied
-    ensures { Keeps result s [] (Begin now) }
+// Of a call that is lent no packets.
+fn plain(answer: Code) -> Replied
+    ensures { result ≡ record { answer = answer; streams = streams_as [] } }
 {
-    let r = session::begin::begin(s, now);
-    let a = r.answer;
-    let answer = of_begin(a);
-    let session = r.session;
     Replied {
         answer,
         streams: no_streams(),
-        session,
     }
 }
 
-fn pass(s: Session, reading: u64, packets: &mut [u8]) -> Replied
-    ensures { Keeps result s packets.new (Pass reading packets.old) }
+fn begin(s: &mut Session, now: u64) -> Replied
+    ensures { Keeps result s.old s.new [] (Begin now) }
 {
-    let r = passing::pass::pass(s, reading, packets);
-    let a = r.answer;
-    let answer = of_pass(a);
-    let streams = r.streams;
-    let session = r.session;
+    plain(of_begin(session::begin::begin(s, now)))
+}
+
+fn streams_of_pass(a: Result<PassAnswer, Refusal>) -> Streams
+    ensures { result ≡ pass_streams a }
+{
+    match a {
+        Ok(PassAnswer::Sent(streams)) => streams,
+        _ => no_streams(),
+    }
+}
+
+fn pass(s: &mut Session, reading: u64, packets: &mut [u8]) -> Replied
+    ensures { Keeps result s.old s.new packets.new (Pass reading packets.old) }
+{
+    let a = passing::pass::pass(s, reading, packets);
     Replied {
-        answer,
-        streams,
-        session,
+        answer: of_pass(a),
+        streams: streams_of_pass(a),
     }
 }
 
@@ -67,142 +75,109 @@ fn sender(address: u64, port: u64) -> Sender
     }
 }
 
+fn streams_of_arrival(a: Result<ArrivalAnswer, Refusal>) -> Streams
+    ensures { result ≡ arrival_streams a }
+{
+    match a {
+        Ok(ArrivalAnswer::Status(streams)) => streams,
+        _ => no_streams(),
+    }
+}
+
 fn arrival(
-    s: Session,
+    s: &mut Session,
     samples: &mut [f32; F32_PER_DATAGRAM],
-    w: Words,
-    datagram: &[u8],
-    waiting: &[u32],
+    c: Call,
     packets: &mut [u8],
 ) -> Replied
-    requires { is_call w ≡ true }
-    ensures { Replies result samples.new packets.new []
-        (step (joined s samples.old)
+    requires { is_call c.words ≡ true }
+    ensures { Replies result s.new samples.new packets.new []
+        (step (joined s.old samples.old)
         (Arrival
-        (incoming w.reading w.later (sender_of w.address w.port) datagram.now
-        waiting.now)
+        (incoming c.entry.words.reading c.entry.words.later (sender_of c.entry.words.address c.entry.words.port)
+        c.entry.octets.now c.entry.numbers.now)
         packets.old)) }
 {
+    let w = c.words;
     let from = sender(w.address, w.port);
-    let r = arriving::arrival::arrival(
-        s, samples, w.reading, w.later, from, datagram, waiting, packets,
-    );
-    let a = r.answer;
-    let answer = of_arrival(a);
-    let streams = r.streams;
-    let session = r.session;
+    let incoming = Incoming {
+        reading: w.reading,
+        later: w.later,
+        from,
+        datagram: c.octets,
+        waiting: c.numbers,
+    };
+    let a = arriving::arrival::arrival(s, samples, incoming, packets);
     Replied {
-        answer,
-        streams,
-        session,
+        answer: of_arrival(a),
+        streams: streams_of_arrival(a),
     }
 }
 
-fn take(s: Session, samples: &[f32; F32_PER_DATAGRAM], reading: u64, places: &mut [f32]) -> Replied
-    ensures { Replies result samples.now [] places.new
-        (step (joined s samples.now) (Take reading places.old)) }
+fn take(
+    s: &mut Session,
+    samples: &[f32; F32_PER_DATAGRAM],
+    reading: u64,
+    places: &mut [f32],
+) -> Replied
+    ensures { Replies result s.new samples.now [] places.new
+        (step (joined s.old samples.now) (Take reading places.old)) }
 {
-    let r = session::take::take(s, samples, reading, places);
-    let a = r.answer;
-    let answer = of_take(a);
-    let session = r.session;
+    plain(of_take(session::take::take(s, samples, reading, places)))
+}
+
+fn close(s: &mut Session, packets: &mut [u8]) -> Replied
+    ensures { Keeps result s.old s.new packets.new (Close packets.old) }
+{
+    let a = session::close::close(s, packets);
     Replied {
-        answer,
-        streams: no_streams(),
-        session,
+        answer: of_close(a),
+        streams: a.unwrap_or(no_streams()),
     }
 }
 
-fn close(s: Session, packets: &mut [u8]) -> Replied
-    ensures { Keeps result s packets.new (Close packets.old) }
+fn missing(s: &mut Session) -> Replied
+    ensures { Keeps result s.old s.new [] TakeMissing }
 {
-    let r = session::close::close(s, packets);
-    let a = r.answer;
-    let answer = of_close(a);
-    let streams = r.streams;
-    let session = r.session;
-    Replied {
-        answer,
-        streams,
-        session,
-    }
+    plain(of_slot(session::drain::take_missing_samples(s)))
 }
 
-fn missing(s: Session) -> Replied
-    ensures { Keeps result s [] TakeMissing }
+fn discontinuity(s: &mut Session) -> Replied
+    ensures { Keeps result s.old s.new [] TakeDiscontinuity }
 {
-    let r = session::drain::take_missing_samples(s);
-    let answer = of_slot(r.held);
-    let session = r.session;
-    Replied {
-        answer,
-        streams: no_streams(),
-        session,
-    }
+    plain(of_slot(session::drain::take_discontinuity(s)))
 }
 
-fn discontinuity(s: Session) -> Replied
-    ensures { Keeps result s [] TakeDiscontinuity }
+fn stalled(s: &mut Session) -> Replied
+    ensures { Keeps result s.old s.new [] TakeStalled }
 {
-    let r = session::drain::take_discontinuity(s);
-    let answer = of_slot(r.held);
-    let session = r.session;
-    Replied {
-        answer,
-        streams: no_streams(),
-        session,
-    }
-}
-
-fn stalled(s: Session) -> Replied
-    ensures { Keeps result s [] TakeStalled }
-{
-    let r = session::drain::take_stalled(s);
-    let answer = of_flag(r.held);
-    let session = r.session;
-    Replied {
-        answer,
-        streams: no_streams(),
-        session,
-    }
+    plain(of_flag(session::drain::take_stalled(s)))
 }
 
 // The call of these numbers. Buffers that its kind doesn't lend are left alone.
 pub(crate) fn call(
-    s: Session,
+    s: &mut Session,
     samples: &mut [f32; F32_PER_DATAGRAM],
-    w: Words,
-    octets: &[u8],
-    numbers: &[u32],
+    c: Call,
     packets: &mut [u8],
     places: &mut [f32],
 ) -> Replied
-    requires { is_call w ≡ true }
-    ensures { Replies result samples.new (pick (lends_packets w.kind) packets.new [])
-        (pick (eqb w.kind 3) places.new [])
-        (step (joined s samples.old)
-        (call_of w octets.now numbers.now packets.old places.old)) }
+    requires { is_call c.words ≡ true }
+    ensures { Replies result s.new samples.new (pick (lends_packets c.entry.words.kind) packets.new [])
+        (pick (eqb c.entry.words.kind 3) places.new [])
+        (step (joined s.old samples.old)
+        (call_of c.entry.words c.entry.octets.now c.entry.numbers.now packets.old places.old)) }
 {
-    if w.kind == BEGIN {
-        return begin(s, w.reading);
+    let w = c.words;
+    // a call is of one of the kinds, so that the last stands for no other
+    match Kind::of(w.kind).unwrap_or(Kind::TakeStalled) {
+        Kind::Begin => begin(s, w.reading),
+        Kind::Pass => pass(s, w.reading, packets),
+        Kind::Arrival => arrival(s, samples, c, packets),
+        Kind::Take => take(s, samples, w.reading, places),
+        Kind::Close => close(s, packets),
+        Kind::TakeMissing => missing(s),
+        Kind::TakeDiscontinuity => discontinuity(s),
+        Kind::TakeStalled => stalled(s),
     }
-    if w.kind == PASS {
-        return pass(s, w.reading, packets);
-    }
-    if w.kind == ARRIVAL {
-        return arrival(s, samples, w, octets, numbers, packets);
-    }
-    if w.kind == TAKE {
-        return take(s, samples, w.reading, places);
-    }
-    if w.kind == CLOSE {
-        return close(s, packets);
-    }
-    if w.kind == TAKE_MISSING {
-        return missing(s);
-    }
-    if w.kind == TAKE_DISCONTINUITY {
-        return discontinuity(s);
-    }
-    stalled(s)
 }

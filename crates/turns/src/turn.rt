@@ -7,83 +7,67 @@ ghost use Rattle.turns.specs.Turns.{Turns, TurnsAt};
 
 use super::call::call;
 use answers::put;
+use encoding::lent::{Call, Calls};
 use encoding::words::{Amounts, Words};
 use model::session::Session;
 use stream::F32_PER_DATAGRAM;
 
-// One call: its datagram and numbers are what lies between two amounts; of the other buffers its own parts are lent.
+// Its answer goes to eight places.
 fn turn(
-    s: Session,
+    s: &mut Session,
     samples: &mut [f32; F32_PER_DATAGRAM],
-    w: Words,
-    from: Amounts,
-    to: Amounts,
-    octets: &[u8],
-    numbers: &[u32],
+    c: Call,
     packets: &mut [u8],
     places: &mut [f32],
     answers: &mut [u64],
-) -> Session
-    requires { (is_call w ≡ true) × (length answers.old ≡ 8) × Within from to × (to.octets ≤ length octets.now) ×
-        (to.numbers ≤ length numbers.now) }
-    ensures { Turns w (joined s samples.old) (between from.octets to.octets octets.now)
-        (between from.numbers to.numbers numbers.now) packets.old places.old
-        (joined result samples.new) packets.new places.new answers.new }
+)
+    requires { (is_call c.words ≡ true) × (length answers.old ≡ 8) }
+    ensures { Turns c.entry.words (joined s.old samples.old) c.entry.octets.now c.entry.numbers.now packets.old places.old
+        (joined s.new samples.new) packets.new places.new answers.new }
 {
-    let o = from.octets;
-    let o_end = to.octets;
-    let n = from.numbers;
-    let n_end = to.numbers;
-    let r = call(
-        s,
-        samples,
-        w,
-        &octets[o..o_end],
-        &numbers[n..n_end],
-        packets,
-        places,
-    );
-    let a = r.answer;
-    let l = r.streams;
-    put(a, l, answers);
-    r.session
+    let r = call(s, samples, c, packets, places);
+    put(r.answer, r.streams, answers)
 }
 
-// The same in the whole buffers; its answer goes to eight places from `at` on.
+// A call of a list: its numbers, what was taken before it and with it, and where its answer goes.
+#[derive(Clone, Copy)]
+pub struct Part {
+    pub words: Words,
+    pub from: Amounts,
+    pub to: Amounts,
+    pub at: usize,
+}
+
+// One call of a list: its datagram and numbers are what lies between the two amounts; of the other buffers its own parts are lent, and
+// its answer goes to eight places from `at` on.
 pub fn turn_at(
-    s: Session,
+    s: &mut Session,
     samples: &mut [f32; F32_PER_DATAGRAM],
-    w: Words,
-    from: Amounts,
-    to: Amounts,
-    octets: &[u8],
-    numbers: &[u32],
+    list: Calls,
+    part: Part,
     packets: &mut [u8],
     places: &mut [f32],
-    at: usize,
     answers: &mut [u64],
-) -> Session
-    requires { (is_call w ≡ true) × (at + 8 ≤ length answers.old) × Within from to × (to.octets ≤ length octets.now) ×
-        (to.numbers ≤ length numbers.now) × (to.packets ≤ length packets.old) × (to.places ≤ length places.old) }
-    ensures { TurnsAt w from to at (joined s samples.old) octets.now numbers.now
-        packets.old places.old answers.old (joined result samples.new)
+)
+    requires { (is_call part.words ≡ true) × (part.at + 8 ≤ length answers.old) × Within part.from part.to × (part.to.octets ≤ length list.octets.now) ×
+        (part.to.numbers ≤ length list.numbers.now) × (part.to.packets ≤ length packets.old) × (part.to.places ≤ length places.old) }
+    ensures { TurnsAt part.words part.from part.to part.at (joined s.old samples.old) list.entry.octets.now list.entry.numbers.now
+        packets.old places.old answers.old (joined s.new samples.new)
         packets.new places.new answers.new }
 {
-    let p = from.packets;
-    let p_end = to.packets;
-    let q = from.places;
-    let q_end = to.places;
-    let end = at + 8;
+    let from = part.from;
+    let to = part.to;
+    let c = Call {
+        words: part.words,
+        octets: &list.octets[from.octets..to.octets],
+        numbers: &list.numbers[from.numbers..to.numbers],
+    };
     turn(
         s,
         samples,
-        w,
-        from,
-        to,
-        octets,
-        numbers,
-        &mut packets[p..p_end],
-        &mut places[q..q_end],
-        &mut answers[at..end],
+        c,
+        &mut packets[from.packets..to.packets],
+        &mut places[from.places..to.places],
+        &mut answers[part.at..part.at + 8],
     )
 }

@@ -4,7 +4,10 @@ use Rattle.turns.proofs.Dispatch.{bounds}
 use Rattle.turns.proofs.call.arrival.Goals as goal
 
 pub sender-from-requires : goal.sender-from-requires
-sender-from-requires c = bounds c.args.w c.requires
+sender-from-requires c = let b = bounds c.args.c.words c.requires in (b.1, b.2)
 
 pub returns : goal.returns
-returns c = let a = c.args in arrived a.s a.samples.now a.w.reading a.w.later _ _ a.datagram.now a.waiting.now a.packets.now _ _ _ _ _ _ c.sender-from.ensures c.arrival-r.ensures c.of_arrival-answer.ensures
+returns c = let a = c.args in
+    let w = a.c.words in
+    arrived a.s.now a.samples.now w.reading w.later _ _ a.c.octets.now a.c.numbers.now a.packets.now _ _ _ _ _ _ _ c.sender-from.ensures c.arrival-a.ensures
+    c.of_arrival.ensures c.streams_of_arrival.ensures

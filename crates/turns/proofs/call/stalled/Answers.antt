@@ -3,4 +3,4 @@ use Rattle.turns.proofs.Arms.{plain, drains-stalled}
 use Rattle.turns.proofs.call.stalled.Goals as goal
 
 pub returns : goal.returns
-returns c = plain _ _ _ _ _ _ _ c.take_stalled-r.ensures (drains-stalled c.args.s) c.of_flag-answer.ensures c.no_streams.ensures
+returns c = plain _ _ _ _ _ _ _ c.take_stalled.ensures (drains-stalled c.args.s.now) c.plain.ensures c.of_flag.ensures

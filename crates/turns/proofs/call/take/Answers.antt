@@ -3,4 +3,4 @@ use Rattle.turns.proofs.Arms.{took}
 use Rattle.turns.proofs.call.take.Goals as goal
 
 pub returns : goal.returns
-returns c = let a = c.args in took a.s a.samples.now a.reading a.places.now _ _ _ _ _ c.take-r.ensures c.of_take-answer.ensures c.no_streams.ensures
+returns c = let a = c.args in took a.s.now a.samples.now a.reading a.places.now _ _ _ _ _ c.take.ensures c.plain.ensures c.of_take.ensures
