@@ -6,6 +6,7 @@ use Rattle.base.specs.Pick.{pick}
 use Rattle.model.specs.Host.{Call}
 use Rattle.encoding.specs.Words.{words_at, is_call, taken_by, nothing, plus, within, call_of}
 use Rattle.encoding.specs.declared.words.Amounts.{Amounts}
+use Rattle.encoding.specs.declared.lent.Calls.{Calls}
 
 -- what is lent, as it is at the call; the answers have a buffer of their own, of which nothing is read
 pub record Lent : Type 0 where
@@ -18,6 +19,10 @@ pub record Lent : Type 0 where
 abbrev pub lent_by : List ℕ → List ℕ → List ℕ → List ℕ → List Float → Lent
 lent_by calls octets numbers packets places =
     record { calls = calls; octets = octets; numbers = numbers; packets = packets; places = places }
+
+-- by a list of calls, and the buffers that are written
+abbrev pub lent_with : Calls → List ℕ → List Float → Lent
+lent_with c packets places = lent_by c.words.now c.octets.now c.numbers.now packets places
 
 abbrev pub room : Lent → Amounts
 room l = record { octets = length l.octets; numbers = length l.numbers; packets = length l.packets; places = length l.places }

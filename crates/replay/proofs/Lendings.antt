@@ -16,6 +16,9 @@ use Rattle.encoding.specs.Lists.{part}
 use Rattle.encoding.specs.declared.words.Words.{Words}
 use Rattle.turns.proofs.Dispatch.{Is, as-begin, as-pass, as-arrival, as-take, as-close, as-missing, as-discontinuity, as-stalled}
 
+past : (k : ℕ) → (k ≡ 0 → ⊥) → (k ≡ 1 → ⊥) → (k ≡ 2 → ⊥) → (k ≡ 3 → ⊥) → (k ≡ 4 → ⊥) → (k ≡ 5 → ⊥) → (k ≡ 6 → ⊥) → 7 ≤ k
+past k h0 h1 h2 h3 h4 h5 h6 = omega (arith, h0, h1, h2, h3, h4, h5, h6)
+
 module _ (w : Words) (o n d : List ℕ) (f : List Float) where
   abbrev Lends : Type 0
   Lends = (lent_packets (call_of w o n d f) ≡ pick (lends_packets w.kind) d []) × (lent_buffer (call_of w o n d f) ≡ pick (eqb w.kind 3) f [])
@@ -37,7 +40,8 @@ module _ (w : Words) (o n d : List ℕ) (f : List Float) where
       go false false false false false false true e0 e1 e2 e3 e4 e5 e6 = lends_as _ (as-discontinuity w o n d f d f (eqb-true _ _ e6))
       go false false false false false false false e0 e1 e2 e3 e4 e5 e6 =
           lends_as _
-          (as-stalled w o n d f d f (eqb-false _ _ e0) (eqb-false _ _ e1) (eqb-false _ _ e2) (eqb-false _ _ e3) (eqb-false _ _ e4) (eqb-false _ _ e5) (eqb-false _ _ e6))
+          (as-stalled w o n d f d f
+          (past w.kind (eqb-false _ _ e0) (eqb-false _ _ e1) (eqb-false _ _ e2) (eqb-false _ _ e3) (eqb-false _ _ e4) (eqb-false _ _ e5) (eqb-false _ _ e6)))
 
 -- a part that is lent is as long as its numbers say
 pub part-size : {A : Type 0} (b : Bool) (k from : ℕ) (l : List A) → from + pick b k 0 ≤ length l → length (pick b (part from (pick b k 0) l) []) ≡ pick b k 0

@@ -23,31 +23,20 @@ use Rattle.model.specs.Gives.{joined}
 use Rattle.encoding.specs.Lists.{Lent, outcome_of}
 use Rattle.replay.specs.Runs.{untouched, carried, Carries, RunsAll}
 use Rattle.replay.specs.Replay.{replayed, Replays}
-use Rattle.replay.proofs.Chunks.{ran-is, carries-runs, runs-account}
+use Rattle.replay.proofs.Chunks.{carries-runs, runs-account}
 
 -- ---- carried on
 
-module _ (outcome : Result ⊤ ListError) (b : Bool) (st : State) (l : Lent) (answers₀ : List ℕ) (e : outcome ≡ outcome_of l (length answers₀)) (h : b ≡ is_ok outcome) where
-  pub ran-told : b ≡ true → outcome_of l (length answers₀) ≡ Ok tt
-  ran-told k = ran-is _ (ap is_ok (sym e) ∙ sym h ∙ k)
-
-  pub refused-list : b ≡ false → Carries outcome st l answers₀ answers₀ l.packets l.places st
+module _ (outcome : Result ⊤ ListError) (st : State) (l : Lent) (answers₀ : List ℕ) (e : outcome_of l (length answers₀) ≡ outcome) where
+  pub refused-list : is_ok outcome ≡ false → Carries outcome st l answers₀ answers₀ l.packets l.places st
   unfolding carried
   refused-list k =
-      let f : is_ok (outcome_of l (length answers₀)) ≡ false = ap is_ok (sym e) ∙ sym h ∙ k in
-      record { leaves = ap (λ (t : Result ⊤ ListError). untouched t st l answers₀) e ∙ sym (pick-f _ _ _ f) }
+      record { leaves = ap (λ (t : Result ⊤ ListError). untouched t st l answers₀) (sym e) ∙ sym (pick-f _ _ _ (ap is_ok e ∙ k)) }
 
-  pub run-list : b ≡ true → (answers packets : List ℕ) (places : List Float) (st' : State) → RunsAll st l answers packets places st'
-      → Carries outcome st l answers₀ answers packets places st'
+  pub run-list : outcome ≡ Ok tt → (answers packets : List ℕ) (places : List Float) (st' : State) → RunsAll st l answers packets places st'
+      → Carries (Ok tt) st l answers₀ answers packets places st'
   unfolding carried
-  run-list k answers packets places st' r =
-      let g = ran-told k in
-      record {
-        leaves =
-            ap (λ (t : Result ⊤ ListError). record { outcome = t; answers = answers; packets = packets; places = places; state = st' }) (e ∙ g)
-            ∙ r.leaves
-            ∙ sym (pick-t _ _ _ (ap is_ok g));
-      }
+  run-list k answers packets places st' r = record { leaves = r.leaves ∙ sym (pick-t _ _ _ (ap is_ok (e ∙ k))) }
 
 -- ---- from a session just opened
 

@@ -6,7 +6,7 @@ use mathlib.Core.List.{List, []}
 use lib.Dec.{eqb, leb}
 use lib.Ieee.{Float}
 use native.Mathlib.Omega.{arith}
-use borrow.Author.Tests.{leb-true}
+use borrow.Author.Tests.{leb-true, ne_eqb}
 use Rattle.base.specs.Pick.{pick}
 use Rattle.model.specs.Host.{Call, Begin, Pass, Arrival, Take, Close, TakeMissing, TakeDiscontinuity, TakeStalled}
 use Rattle.model.specs.State.{State}
@@ -75,9 +75,16 @@ module _ (w : Words) (o n d : List ℕ) (f : List Float) (e : List ℕ) (g : Lis
   unfolding call_of pick
   as-discontinuity h = (rw h, rw h, rw h)
 
-  pub as-stalled : w.kind ≡ 7 → Is w o n d f e g TakeStalled [] []
+  -- 7, and what is past it
+  pub as-stalled : 7 ≤ w.kind → Is w o n d f e g TakeStalled [] []
   unfolding call_of pick
-  as-stalled h = (rw h, rw h, rw h)
+  as-stalled h =
+      let k = w.kind in
+      let not : (j : ℕ) → j < 7 → eqb k j ≡ false = λ j l. ne_eqb k j (λ e. omega (arith, e)) in (
+        rw (not 0 (omega arith), not 1 (omega arith), not 2 (omega arith), not 3 (omega arith), not 4 (omega arith), not 5 (omega arith), not 6 (omega arith)),
+        rw (not 1 (omega arith), not 2 (omega arith), not 4 (omega arith)),
+        rw (not 3 (omega arith)),
+      )
 
 -- what the call gave is what the numbers give
 pub by_kind : (w : Words) (o n d : List ℕ) (f : List Float) (e : List ℕ) (g : List Float) (c : Call) (p : List ℕ) (q : List Float) (st : State) (r : Replied)

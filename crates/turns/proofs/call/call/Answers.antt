@@ -1,4 +1,5 @@
 -- `turns::call::call` meets its contract: a kind a return. Assumes nothing.
+use Rattle.std.proofs.Common.{le_of_eq, sym}
 use Rattle.turns.proofs.Dispatch.{as-begin, as-pass, as-arrival, as-take, as-close, as-missing, as-discontinuity, as-stalled, by_kind, kind_is}
 use Rattle.turns.proofs.call.call.Goals as goal
 
@@ -63,5 +64,5 @@ returns-in-TakeStalled c =
     let a = c.args in
     let w = a.c.words in
     by_kind w a.c.octets.now a.c.numbers.now a.packets.now a.places.now _ _ _ _ _ _ _ _ _
-    (as-stalled w a.c.octets.now a.c.numbers.now a.packets.now a.places.now _ _ (kind_is w c.requires _ c.of.ensures.some c.of.ensures.none _ c.unwrap_or.ensures c.in-TakeStalled.is))
+    (as-stalled w a.c.octets.now a.c.numbers.now a.packets.now a.places.now _ _ (le_of_eq (sym (kind_is w c.requires _ c.of.ensures.some c.of.ensures.none _ c.unwrap_or.ensures c.in-TakeStalled.is))))
     (c.stalled.ensures.replies a.samples.now)
