@@ -5,8 +5,6 @@
 ghost use Rattle.std.specs.Prelude.{◌≡◌};
 ghost use Rattle.stall.specs.Episode.{unarmed, delivered, is_due, reported, taken};
 
-use double::time::since;
-
 #[derive(Clone, Copy)]
 pub struct StallEpisode {
     // samples came since the last report
@@ -42,7 +40,7 @@ impl StallEpisode {
         if hard <= soft {
             return false;
         }
-        since(now, last) >= soft
+        now.saturating_sub(last) >= soft
     }
 
     // Makes the report, and none more before the next delivery.

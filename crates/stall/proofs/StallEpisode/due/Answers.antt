@@ -25,4 +25,4 @@ returns c =
     let a = c.args in
     let e = a.self in
     rw (not-false e.delivering c.if-not-self.false)
-    (rw (lt-ltb a.soft a.hard (omega arith)) (ap (leb a.soft) c.since.ensures))
+    (rw (lt-ltb a.soft a.hard (omega arith)) (ap (leb a.soft) c.saturating_sub.ensures))
