@@ -7,7 +7,8 @@ use native.Mathlib.Nat.{max-zero, max-eq_left, max-eq_right, le_of_lt}
 use Rattle.base.proofs.Picks.{pick-t, pick-f}
 use Rattle.base.proofs.Tests.{was, due, not-due}
 use Rattle.stall.specs.Episode.{is_due}
-use Rattle.model.specs.State.{or_zero, quiet_since_of}
+use Rattle.std.specs.Option.{unwrap_or}
+use Rattle.model.specs.State.{quiet_since_of}
 use Rattle.model.specs.declared.receiver.Receiver.{Receiver}
 use Rattle.receiving.specs.Quiet.{quiet_at}
 use Rattle.receiving.specs.declared.read.Quiet.TheVariants.{Short, Soft, Hard}
@@ -15,16 +16,16 @@ use Rattle.receiving.specs.declared.read.Quiet.TheVariants.{Short, Soft, Hard}
 module _ (r : Receiver) where
   pub no-anchor : r.reading.entered ≡ None → r.last_valid_iq ≡ quiet_since_of r
   unfolding quiet_since_of
-  no-anchor e = sym (ap (λ (a : Option ℕ). max r.last_valid_iq (or_zero a)) e ∙ max-zero _)
+  no-anchor e = sym (ap (λ (a : Option ℕ). max r.last_valid_iq (unwrap_or a 0)) e ∙ max-zero _)
 
   module _ (t : ℕ) (e : r.reading.entered ≡ Some t) where
     pub anchor-later : r.last_valid_iq < t → t ≡ quiet_since_of r
     unfolding quiet_since_of
-    anchor-later h = sym (ap (λ (a : Option ℕ). max r.last_valid_iq (or_zero a)) e ∙ max-eq_right (le_of_lt h))
+    anchor-later h = sym (ap (λ (a : Option ℕ). max r.last_valid_iq (unwrap_or a 0)) e ∙ max-eq_right (le_of_lt h))
 
     pub anchor-earlier : t ≤ r.last_valid_iq → r.last_valid_iq ≡ quiet_since_of r
     unfolding quiet_since_of
-    anchor-earlier h = sym (ap (λ (a : Option ℕ). max r.last_valid_iq (or_zero a)) e ∙ max-eq_left h)
+    anchor-earlier h = sym (ap (λ (a : Option ℕ). max r.last_valid_iq (unwrap_or a 0)) e ∙ max-eq_left h)
 
 -- ---- what it comes to, with its beginning as the code worked it out
 
