@@ -39,13 +39,3 @@ module _ (p : List ℕ) {s : ℕ} where
   pub high-set : {r : Bool} {d u y x a : ℕ} → s ≡ be_at 4 p 0 → r ≡ eqb (get_or p 4 0) 1 → d ≡ be_at 4 p 9 → u ≡ be_at 4 p 329 → y ≡ be_at 4 p 1428 → x ≡ be_at 4 p 1432
       → a ≡ get_or p 1443 0 → high_priority_of s r d u y x a ≡ high_priority_in p
   high-set h i j k l m n = rw (h, i ∙ ap (λ (v : ℕ). eqb v 1) (sym (be_at-one p 4)), j, k, l, m, n ∙ sym (be_at-one p 1443))
-
--- ---- its values
-
--- by the code's tests, joined as it joins them
-pub high-valued : (p : List ℕ) {r alike run within : Bool} {d u : ℕ} → run ≡ leb (get_or p 4 0) 1 → within ≡ leb (get_or p 1443 0) 31 → d ≡ be_at 4 p 9 → u ≡ be_at 4 p 329
-    → r ≡ (run && alike) → alike ≡ (eqb d u && within) → r ≡ valued stream.HighPriority p
-high-valued p {run = run} a b h k j m =
-    j
-    ∙ ap (λ (x : Bool). run && x) m
-    ∙ rw (a ∙ ap (λ (v : ℕ). leb v 1) (sym (be_at-one p 4)), b ∙ ap (λ (v : ℕ). leb v 31) (sym (be_at-one p 1443)), h, k)
