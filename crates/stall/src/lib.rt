@@ -31,6 +31,7 @@ impl StallEpisode {
 
     // Whether the report is due now, the last sample being of the reading `last`: `soft` nanoseconds after it. Where the hard
     // deadline is not the longer one, the outage is left to it.
+    #[tactic(auto, unfolding(crate::specs::Episode::is_due))]
     pub fn due(self, last: u64, now: u64, soft: u64, hard: u64) -> bool
         ensures { result ≡ is_due self last now soft hard }
     {
