@@ -167,6 +167,7 @@ fn set_by(radio: Radio, stream: Stream, p: &[u8]) -> Radio
 }
 
 // The packet of a stream, of any length. Refused, the radio is as it was; accepted, it keeps the packet's count and fields.
+#[tactic(auto, unfolding(base::specs::Pick::pick, crate::specs::Command::command_read))]
 pub fn read_command(radio: Radio, stream: Stream, packet: &[u8]) -> Heard
     ensures { outcome_of result ≡ command_read radio stream packet.now }
 {
