@@ -5,8 +5,6 @@
 ghost use Rattle.std.specs.Prelude.{◌≡◌, min};
 ghost use Rattle.attenuator.specs.Controller.{usual, up, down, opened, run_start_of, heard, trips, observed, releases, quieted, ticked};
 
-use double::time::since;
-
 // Overload reports this close together, in nanoseconds, are one run.
 pub const OVERLOAD_HOLD: u64 = 500_000_000;
 
@@ -101,7 +99,7 @@ impl Controller {
         let Some(last) = self.last_overload else {
             return now;
         };
-        if since(now, last) > self.timing.hold {
+        if now.saturating_sub(last) > self.timing.hold {
             return now;
         }
         self.run_start.unwrap_or(now)
@@ -124,7 +122,7 @@ impl Controller {
         if self.db >= MAX_DB {
             return false;
         }
-        since(now, start) >= self.timing.trip_after
+        now.saturating_sub(start) >= self.timing.trip_after
     }
 
     // A status packet's overload bit, read now. A clear one changes nothing: the run ends when the hold lapses.
@@ -156,7 +154,7 @@ impl Controller {
         if self.db == 0 {
             return false;
         }
-        since(now, self.quiet_since) >= self.timing.release_after
+        now.saturating_sub(self.quiet_since) >= self.timing.release_after
     }
 
     // To a level at which a quiet time starts then.

@@ -1,14 +1,14 @@
 -- What the replies of both protocols share: the tests of a datagram's kind and status; and a told reply leaves no doubt which reply it was. Assumes nothing.
 use Rattle.std.specs.Prelude.{Option, Some, None}
-use Prim.Native.Nat.{ℕ, ◌≤◌, ◌<◌}
-use mathlib.Core.Bool.{Bool, true, false, ◌&&◌, and-false, or-false}
+use Prim.Native.Nat.{ℕ}
+use mathlib.Core.Bool.{Bool, true, false, ◌&&◌, and-false}
 use mathlib.Core.Path.{◌≡◌, refl, sym, ap, ◌∙◌}
 use mathlib.Core.List.{List, [], ◌∷◌}
 use lib.ListN.{length, get_or, take, drop}
-use lib.Dec.{leb, eqb, leb→le, eqb→eq}
-use lib.Ieee.Fits.{and_l, and_r}
+use lib.Dec.{leb, eqb, eqb→eq}
+use lib.Ieee.Fits.{and_r}
 use native.Mathlib.Omega.{arith}
-use borrow.Author.Tests.{eqb-true, le-leb, lt-leb, ne_eqb}
+use borrow.Author.Tests.{ne_eqb}
 use Rattle.base.specs.Pick.{pick}
 use Rattle.octets.specs.Number.{be_at}
 use Rattle.base.proofs.Picks.{pick-t, pick-f, pick-either}
@@ -22,18 +22,8 @@ use Rattle.discovery.specs.declared.DiscoveryReply.{DiscoveryReply}
 
 -- ---- a datagram's kind: its l octets are n or more, and the number at its front is k
 
-module _ (n l : ℕ) where
-  pub too_short : (t : Bool) → l < n → false ≡ (leb n l && t)
-  too_short t h = rw (lt-leb n l h)
-
-  pub by_front : (x y k : ℕ) → n ≤ l → x ≡ y → eqb x k ≡ (leb n l && eqb y k)
-  by_front x y k h e = rw (le-leb n l h, e)
-
-  pub long-enough : (t : Bool) → (leb n l && t) ≡ true → n ≤ l
-  long-enough t e = leb→le n l (and_l (leb n l) t (rw e tt))
-
-  front : (x k : ℕ) → (leb n l && eqb x k) ≡ true → x ≡ k
-  front x k e = eqb→eq x k (and_r (leb n l) (eqb x k) (rw e tt))
+front : (n l x k : ℕ) → (leb n l && eqb x k) ≡ true → x ≡ k
+front n l x k e = eqb→eq x k (and_r (leb n l) (eqb x k) (rw e tt))
 
 -- no datagram is of both kinds, whatever its elements are
 pub p1-not-p2 : (b : List ℕ) → is_p1 b ≡ true → is_p2 b ≡ false
@@ -51,10 +41,6 @@ module _ (octet : ℕ) (t : Bool) (e : t ≡ is_status octet) where
   pub a-status : (reply : Reply) → t ≡ true → reply ≡ checked octet reply
   unfolding checked
   a-status reply h = sym (pick-t _ _ _ (sym e ∙ h))
-
--- a status that is not busy is idle
-pub idle : (octet : ℕ) → (octet ≡ 3 → ⊥) → is_status octet ≡ true → 2 ≡ octet
-idle octet n h = sym (eqb-true octet 2 (sym (or-false (eqb octet 2)) ∙ rw (ne_eqb octet 3 n) at h))
 
 -- s is the status that was read and m the copied address: they tell what the octet and the datagram's part a tell
 pub replied : (octet : ℕ) (told : ℕ → Told) (s : DiscoveryStatus) (m a : List ℕ) → (is_status octet ≡ true → status_number s ≡ octet) → m ≡ a

@@ -172,6 +172,7 @@ fn reply_p2(buf: &[u8]) -> Option<DiscoveryReply>
 }
 
 // What a datagram of any length says as a reply; nothing where it is none (18).
+#[tactic(auto, unfolding(base::specs::Pick::pick, crate::specs::Reply::reply_told))]
 pub fn parse_reply(buf: &[u8]) -> Option<DiscoveryReply>
     ensures { told_of result ≡ reply_told buf.now }
 {

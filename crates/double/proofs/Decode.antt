@@ -1,11 +1,21 @@
 -- A double by its bits. Assumes nothing.
 use Rattle.std.proofs.Common.{◌≡◌, ℕ, zero, suc, ◌+◌, ◌-◌, ◌*◌, ◌/◌, ◌%◌, ◌^◌, ◌<◌, ◌≤◌, Bool, true, false, cond, not, T, eqb, ltb, leb, sym, refl, ap, ◌∙◌, subst, true≢false, add_comm, arith, lit<, ltb-false, ltb-true, eq-eqb, ne_eqb}
+use Rattle.std.specs.Float.{float_is_finite}
 use lib.Ieee.{Float, nan, inf, fin, binary64, odd, of_fields, of_bits, to_bits, fits, is_nan, ne}
 use lib.Ieee.Bits.{of_bits-to_bits, is_true}
 use lib.Ieee.Exact.{HasValue, odd_sign}
-use lib.Ieee.Compare.{differs_from_itself}
 use lib.Ieee.Scale.{finite}
 use Rattle.double.specs.Parts.{PartsOf}
+
+-- std's test, by what its method answers
+pub finite-is : (x : Float) → float_is_finite x ≡ finite x
+unfolding float_is_finite
+finite-is nan = refl
+finite-is (inf s) = refl
+finite-is (fin s m e) = refl
+
+pub tested : (x : Float) {r b : Bool} → r ≡ float_is_finite x → r ≡ b → finite x ≡ b
+tested x v h = sym (v ∙ finite-is x) ∙ h
 
 pub finite-no-nan : (x : Float) → T (finite x) → T (not (is_nan x))
 unfolding is_nan
@@ -119,11 +129,3 @@ apart-high x h f z =
     let t = b % 4503599627370496 in
     let s = leb 9223372036854775808 b in
     subst (λ (y : Float). PartsOf y s (t + 4503599627370496) (e - 1)) (sym (by-fields x h)) (parts-high s e t z (field_in b) (digits_in b) (subst (λ (y : Float). T (finite y)) (by-fields x h) f))
-
-pub is_finite : (x : Float) → T (fits binary64 x) → ltb (to_bits binary64 x % 9223372036854775808 / 4503599627370496) 2047 ≡ finite x
-is_finite x h =
-    let b = to_bits binary64 x in
-    fields-finite (leb 9223372036854775808 b) (b % 9223372036854775808 / 4503599627370496) (b % 4503599627370496) (field_in b) ∙ ap finite (sym (by-fields x h))
-
-pub nan-not-finite : (x : Float) → ne x x ≡ true → false ≡ finite x
-nan-not-finite x h = ap finite (sym (differs_from_itself x (subst T (sym h) tt)))

@@ -1,5 +1,5 @@
 -- The whole numbers near a double, by the tests that code makes. Assumes nothing.
-use Rattle.std.proofs.Common.{◌≡◌, ℕ, ◌+◌, ◌*◌, ◌/◌, ◌%◌, ◌<◌, ◌≤◌, min, Bool, true, false, cond, eqb, ltb, ℤ, pos, sym, refl, ap, ◌∙◌, true≢false, zero-mul, arith, lit<, ltb-false, eq-eqb, ne_eqb}
+use Rattle.std.proofs.Common.{◌≡◌, ℕ, ◌+◌, ◌*◌, ◌/◌, ◌%◌, ◌<◌, ◌≤◌, min, Bool, true, false, cond, eqb, ltb, ℤ, pos, sym, refl, ap, ◌∙◌, true≢false, zero-mul, arith, lit<, ltb-false}
 use Prim.Native.Nat.{compare, Ordering}
 use native.Mathlib.Nat.{zero-div, zero-mod}
 use lib.Ieee.{Float, nan, inf, fin, up, down, lt}
@@ -7,8 +7,8 @@ use lib.Ieee.Fits.{up_pos, down_pos}
 use lib.Ieee.Scale.{finite}
 use lib.Ieee.Positive.{num, den}
 use Rattle.double.specs.Parts.{SplitOf, NearOf}
-use Rattle.double.specs.Whole.{most, nat_of, floor_at, ceil_at, ceil_of, away, round_at, round_of, is_whole}
-use Rattle.double.proofs.Orders.{away-lt, away-ge}
+use Rattle.double.specs.Whole.{most, nat_of, floor_at, ceil_at, away, round_at, is_whole}
+use Rattle.double.proofs.Orders.{away-lt}
 use Rattle.double.proofs.Zeros.{factor-zero, zero-side}
 use Rattle.double.proofs.Plain.{Plain, plain}
 
@@ -95,17 +95,3 @@ near-over x h f = record { floors = nat_over floor_at x h f; ceils = nat_over ce
 
 pub near_none : (x : Float) → lt (fin false 0 (pos 0)) x ≡ false → NearOf x 0 0 1
 near_none x h = record { floors = nat-none floor_at floor-zero x h; ceils = nat-none ceil_at ceil-zero x h; rounds = nat-none round_at round-zero x h; room = lit< tt }
-
--- ---- `ceil_u64` and `round_u64`, by what is left
-module _ {x : Float} {w r u : ℕ} (n : NearOf x w r u) where
-  pub ceil-none : r ≡ 0 → w ≤ most → w ≡ ceil_of x
-  ceil-none z h = sym (n.ceils ∙ ap (λ (t : Bool). min (w + cond t 0 1) most) (eq-eqb r 0 z) ∙ omega arith)
-
-  pub ceil-some : (r ≡ 0 → ⊥) → min (w + 1) most ≡ ceil_of x
-  ceil-some z = sym (n.ceils ∙ ap (λ (t : Bool). min (w + cond t 0 1) most) (ne_eqb r 0 z))
-
-  pub round-low : r * 2 < u → w ≤ most → w ≡ round_of x
-  round-low l h = sym (n.rounds ∙ ap (λ (q : ℕ). min q most) (away-lt (r * 2) u w l) ∙ omega arith)
-
-  pub round-high : u ≤ r * 2 → min (w + 1) most ≡ round_of x
-  round-high l = sym (n.rounds ∙ ap (λ (q : ℕ). min q most) (away-ge (r * 2) u w l))

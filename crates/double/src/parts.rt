@@ -3,8 +3,6 @@ ghost use Rattle.std.specs.Prelude.{◌≡◌, min, T};
 ghost use Rattle.std.specs.Float.Ieee.Scale.{finite};
 ghost use Rattle.double.specs.Parts.{PartsOf, SplitOf, NearOf};
 
-use super::whole::is_finite;
-
 // The weights of the fields of a double's bits: the sign's, 2^63, and the exponent's, 2^52.
 pub(crate) const SIGN: u64 = 0x8000_0000_0000_0000;
 
@@ -91,7 +89,7 @@ pub(crate) fn near(x: f64) -> Mixed
     ensures { NearOf x result.whole result.rest result.unit }
 {
     if x > 0.0 {
-        if is_finite(x) {
+        if x.is_finite() {
             return split(x);
         }
         return Mixed {

@@ -4,7 +4,6 @@ ghost use Rattle.double.specs.Seconds.{seconds_of, nanos_of};
 ghost use Rattle.double.specs.Parts.{to_even, nanos_by};
 
 use super::parts::{MOST, apart};
-use super::whole::{is_finite, saturating_add};
 
 // Rust's `saturating_duration_since`: the nanoseconds from one reading to another, 0 where that lies before it.
 pub fn since(now: u64, then: u64) -> u64
@@ -29,15 +28,15 @@ fn to_even(q: u64, t: u64, u: u64, s: u64) -> u64
         return q;
     }
     if t * 2 > u {
-        return saturating_add(q, 1);
+        return q.saturating_add(1);
     }
     if s > 0 {
-        return saturating_add(q, 1);
+        return q.saturating_add(1);
     }
     if q % 2 == 0 {
         return q;
     }
-    saturating_add(q, 1)
+    q.saturating_add(1)
 }
 
 // 2^26: d * 1e9 has 83 bits, and is kept as b * LIMB + r.
@@ -77,7 +76,7 @@ pub fn nanoseconds(x: f64) -> u64
     ensures { result ≡ nanos_of x }
 {
     if x > 0.0 {
-        if is_finite(x) {
+        if x.is_finite() {
             let p = apart(x);
             return nanos_of(p.digits, p.scale);
         }

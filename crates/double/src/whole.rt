@@ -1,25 +1,17 @@
-// Whether a double is finite or whole, and the whole numbers near it, as Rust's `as`, `floor`, `ceil` and `round` have them.
+// Whether a double is whole, and the whole numbers near it, as Rust's `as`, `floor`, `ceil` and `round` have them. std has all of
+// them, by the machine's own conversion. 01 has these worked out over the bits of a double, and so they stay.
 ghost use Rattle.std.specs.Prelude.{◌≡◌, ◌+◌, min, false, pos};
 ghost use Rattle.std.specs.Float.{fin};
 ghost use Rattle.std.specs.Float.Ieee.{lt, to_unsigned};
-ghost use Rattle.std.specs.Float.Ieee.Scale.{finite};
 ghost use Rattle.double.specs.Whole.{most, floor_of, ceil_of, round_of, rounded, is_whole};
 
-use super::parts::{EXPONENT, SIGN, near, split};
+use super::parts::{near, split};
 
-pub fn is_finite(x: f64) -> bool
-    ensures { result ≡ finite x }
-{
-    if x != x {
-        return false;
-    }
-    f64::to_bits(x) % SIGN / EXPONENT < 2047
-}
-
+// Rust's `x.fract() == 0.0`.
 pub fn is_whole(x: f64) -> bool
     ensures { result ≡ is_whole x }
 {
-    if is_finite(x) {
+    if x.is_finite() {
         return split(x).rest == 0;
     }
     false
@@ -32,7 +24,7 @@ pub fn floor_u64(x: f64) -> u64
     near(x).whole
 }
 
-// Rust's `x as u32`.
+// Rust's `x as u32`, cut from the floor: 01 names this form for the phase word.
 pub fn cast_u32(x: f64) -> u32
     ensures { result ≡ to_unsigned 32 x }
 {
@@ -55,7 +47,7 @@ pub fn ceil_u64(x: f64) -> u64
     if s.rest == 0 {
         return s.whole;
     }
-    saturating_add(s.whole, 1)
+    s.whole.saturating_add(1)
 }
 
 // Rust's `x.round() as u64`: half away from zero.
@@ -66,7 +58,7 @@ pub fn round_u64(x: f64) -> u64
     if s.rest * 2 < s.unit {
         return s.whole;
     }
-    saturating_add(s.whole, 1)
+    s.whole.saturating_add(1)
 }
 
 // From 2^52 on every double is whole.

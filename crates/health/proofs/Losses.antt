@@ -1,4 +1,4 @@
--- The loss total modulo 2^64: from two parts that do not overflow, and as datagrams are lost. Assumes nothing.
+-- The loss total modulo 2^64, as datagrams are lost. Assumes nothing.
 use Rattle.std.proofs.Common.{◌≡◌, ℕ, ◌+◌, ◌*◌, ◌/◌, ◌%◌, ◌^◌, arith}
 use Rattle.health.specs.Counters.{count_dropped, loss_total}
 use Rattle.health.specs.declared.InputHealthCounters.{InputHealthCounters}
@@ -6,9 +6,6 @@ use Rattle.health.specs.declared.InputHealthCounters.{InputHealthCounters}
 -- numbers that whole multiples of 2^64 bring together
 same_rest : (a b p q : ℕ) → a + p * 2 ^ 64 ≡ b + q * 2 ^ 64 → a % 2 ^ 64 ≡ b % 2 ^ 64
 same_rest a b p q e = omega arith
-
-pub product : (d : ℕ) → (d / 2 ^ 56 * 238 % 256 * 2 ^ 56 + d % 2 ^ 56 * 238) % 2 ^ 64 ≡ 238 * d % 2 ^ 64
-product d = same_rest _ _ (d / 2 ^ 56 * 238 / 256) 0 (omega arith)
 
 -- n datagrams more are 238 n samples more
 pub loss-rises : (c : InputHealthCounters) (n : ℕ) → loss_total (count_dropped c n) ≡ (loss_total c + 238 * n) % 2 ^ 64

@@ -6,9 +6,6 @@ ghost use Rattle.health.specs.Counters.{none_counted, count_dropped, count_gap, 
 
 use stream::SAMPLES_PER_DATAGRAM;
 
-// 2^56: the weight of a u64's highest octet.
-const EIGHTH_OCTET: u64 = 72_057_594_037_927_936;
-
 #[derive(Clone, Copy)]
 pub struct InputHealthCounters {
     pub dropped_packets: u64,
@@ -47,12 +44,11 @@ impl InputHealthCounters {
         self.malformed_packets = self.malformed_packets.wrapping_add(1);
     }
 
-    // The samples of the datagrams lost, modulo 2^64. The product is taken in two parts, of which neither passes 2^64.
+    // The samples of the datagrams lost, modulo 2^64.
+    #[tactic(auto, unfolding(crate::specs::Counters::loss_total))]
     pub fn loss_total(self) -> u64
         ensures { result ≡ loss_total self }
     {
-        let low = self.dropped_packets % EIGHTH_OCTET * SAMPLES_PER_DATAGRAM;
-        let high = self.dropped_packets / EIGHTH_OCTET * SAMPLES_PER_DATAGRAM % 256 * EIGHTH_OCTET;
-        high.wrapping_add(low)
+        self.dropped_packets.wrapping_mul(SAMPLES_PER_DATAGRAM)
     }
 }

@@ -8,7 +8,8 @@ use Rattle.health.specs.declared.InputHealthCounters.{InputHealthCounters}
 use Rattle.model.specs.Host.{Call, Reply, trace, final}
 use Rattle.model.specs.State.{State}
 use Rattle.model.specs.Session.{step, opened_with, session}
-use Rattle.model.specs.Counted.{dropped_by, gap_by, malformed_by, to_missing, to_discontinuity, total, held_in, held_by, drains_missing, drains_discontinuity, drained, Counts}
+use Rattle.std.specs.Option.{unwrap_or}
+use Rattle.model.specs.Counted.{dropped_by, gap_by, malformed_by, to_missing, to_discontinuity, total, held_by, drains_missing, drains_discontinuity, drained, Counts}
 use Rattle.model.specs.declared.receiver.Pending.{Pending}
 use Rattle.model.specs.declared.session.Session.{Session}
 use Rattle.model.specs.declared.settings.Settings.{Settings}
@@ -65,18 +66,18 @@ module _ (samples : List Float) (s : Settings) (now : ℕ) (calls : List Call) (
   malformed-all =
       sum_of _ _ (sums samples (λ st. (health_of st).malformed_packets) malformed_by (λ st c. (step-adds st c).malformed) first calls 0 (ap (λ (h : InputHealthCounters). h.malformed_packets) new-health))
 
-  missing-all : Flow (held_in (pending_of first).missing) (held_in (pending_of last).missing) (total (to_missing rate) replies) (drained drains_missing calls replies)
+  missing-all : Flow (unwrap_or (pending_of first).missing 0) (unwrap_or (pending_of last).missing 0) (total (to_missing rate) replies) (drained drains_missing calls replies)
   missing-all =
-      flows samples rate (λ st. held_in (pending_of st).missing) (to_missing rate) drains_missing
-      (λ st c r. subst (λ (x : Float). Flow (held_in (pending_of st).missing) (held_in (pending_of (step st c).state).missing) (to_missing x (step st c).reply.answer) (pick (drains_missing c) (held_by (step st c).reply.answer) 0)) r (step-moves st c).missing)
+      flows samples rate (λ st. unwrap_or (pending_of st).missing 0) (to_missing rate) drains_missing
+      (λ st c r. subst (λ (x : Float). Flow (unwrap_or (pending_of st).missing 0) (unwrap_or (pending_of (step st c).state).missing 0) (to_missing x (step st c).reply.answer) (pick (drains_missing c) (held_by (step st c).reply.answer) 0)) r (step-moves st c).missing)
       first
       calls
       new-rate
 
-  discontinuity-all : Flow (held_in (pending_of first).discontinuity) (held_in (pending_of last).discontinuity) (total (to_discontinuity rate) replies) (drained drains_discontinuity calls replies)
+  discontinuity-all : Flow (unwrap_or (pending_of first).discontinuity 0) (unwrap_or (pending_of last).discontinuity 0) (total (to_discontinuity rate) replies) (drained drains_discontinuity calls replies)
   discontinuity-all =
-      flows samples rate (λ st. held_in (pending_of st).discontinuity) (to_discontinuity rate) drains_discontinuity
-      (λ st c r. subst (λ (x : Float). Flow (held_in (pending_of st).discontinuity) (held_in (pending_of (step st c).state).discontinuity) (to_discontinuity x (step st c).reply.answer) (pick (drains_discontinuity c) (held_by (step st c).reply.answer) 0)) r (step-moves st c).discontinuity)
+      flows samples rate (λ st. unwrap_or (pending_of st).discontinuity 0) (to_discontinuity rate) drains_discontinuity
+      (λ st c r. subst (λ (x : Float). Flow (unwrap_or (pending_of st).discontinuity 0) (unwrap_or (pending_of (step st c).state).discontinuity 0) (to_discontinuity x (step st c).reply.answer) (pick (drains_discontinuity c) (held_by (step st c).reply.answer) 0)) r (step-moves st c).discontinuity)
       first
       calls
       new-rate
@@ -88,6 +89,6 @@ counts samples s now calls ok =
       gaps = gaps-all samples s now calls ok;
       malformed = malformed-all samples s now calls ok;
       loss = loss-of _ _ (dropped-all samples s now calls ok);
-      missing = λ h. slot_of samples s now calls ok _ _ _ _ (ap (λ (q : Pending). held_in q.missing) (new-pending samples s now calls ok)) h (missing-all samples s now calls ok);
-      discontinuity = λ h. slot_of samples s now calls ok _ _ _ _ (ap (λ (q : Pending). held_in q.discontinuity) (new-pending samples s now calls ok)) h (discontinuity-all samples s now calls ok);
+      missing = λ h. slot_of samples s now calls ok _ _ _ _ (ap (λ (q : Pending). unwrap_or q.missing 0) (new-pending samples s now calls ok)) h (missing-all samples s now calls ok);
+      discontinuity = λ h. slot_of samples s now calls ok _ _ _ _ (ap (λ (q : Pending). unwrap_or q.discontinuity 0) (new-pending samples s now calls ok)) h (discontinuity-all samples s now calls ok);
     }

@@ -23,7 +23,8 @@ use Rattle.model.specs.Take.{handed, hand_out}
 use Rattle.model.specs.Close.{stop}
 use Rattle.model.specs.Drain.{take_missing, take_discontinuity, take_stalled}
 use Rattle.model.specs.Session.{step, answered, session}
-use Rattle.model.specs.Counted.{to_missing, to_discontinuity, total, held_in, held_by, drains_missing, drains_discontinuity, drained}
+use Rattle.std.specs.Option.{unwrap_or}
+use Rattle.model.specs.Counted.{to_missing, to_discontinuity, total, held_by, drains_missing, drains_discontinuity, drained}
 use Rattle.model.specs.declared.receiver.Pending.{Pending}
 use Rattle.model.specs.declared.session.Session.{Session}
 use Rattle.model.specs.declared.settings.Settings.{Settings}
@@ -37,8 +38,8 @@ abbrev pub Flow : ℕ → ℕ → ℕ → ℕ → Type 0
 Flow before after told out = before + told ≤ most → out + after ≡ before + told
 
 pub record Moves (rate : Float) (p after : Pending) (c : Call) (a : Answer) : Type 0 where
-  pub missing : Flow (held_in p.missing) (held_in after.missing) (to_missing rate a) (pick (drains_missing c) (held_by a) 0)
-  pub discontinuity : Flow (held_in p.discontinuity) (held_in after.discontinuity) (to_discontinuity rate a) (pick (drains_discontinuity c) (held_by a) 0)
+  pub missing : Flow (unwrap_or p.missing 0) (unwrap_or after.missing 0) (to_missing rate a) (pick (drains_missing c) (held_by a) 0)
+  pub discontinuity : Flow (unwrap_or p.discontinuity 0) (unwrap_or after.discontinuity 0) (to_discontinuity rate a) (pick (drains_discontinuity c) (held_by a) 0)
 
 flow-none : (n told out : ℕ) → told ≡ 0 → out ≡ 0 → Flow n n told out
 flow-none n told out t o h = omega arith
@@ -56,17 +57,17 @@ moves-none : (rate : Float) (p after : Pending) (c : Call) (a : Answer) → afte
 moves-none rate p after c a e m d h =
     rw e
     (record {
-      missing = flow-none (held_in p.missing) _ _ m (none_out (drains_missing c) _ h);
-      discontinuity = flow-none (held_in p.discontinuity) _ _ d (none_out (drains_discontinuity c) _ h);
+      missing = flow-none (unwrap_or p.missing 0) _ _ m (none_out (drains_missing c) _ h);
+      discontinuity = flow-none (unwrap_or p.discontinuity 0) _ _ d (none_out (drains_discontinuity c) _ h);
     })
 
 -- n more in a slot
-held_more : (x : Option ℕ) (n : ℕ) → held_in x + n ≤ most → held_in (added x n) ≡ held_in x + n
+held_more : (x : Option ℕ) (n : ℕ) → unwrap_or x 0 + n ≤ most → unwrap_or (added x n) 0 ≡ unwrap_or x 0 + n
 unfolding added
 held_more None n h = omega arith
 held_more (Some m) n h = omega arith
 
-flow-held : (x : Option ℕ) (n told out : ℕ) → told ≡ n → out ≡ 0 → Flow (held_in x) (held_in (added x n)) told out
+flow-held : (x : Option ℕ) (n told out : ℕ) → told ≡ n → out ≡ 0 → Flow (unwrap_or x 0) (unwrap_or (added x n) 0) told out
 flow-held x n told out t o h = let more = held_more x n (omega arith) in omega arith
 
 -- an arrival's event: what it misses goes to one of the slots
@@ -84,11 +85,11 @@ module _ (rate : Float) (p : Pending) (c : Call) where
       (λ e.
       record {
         missing = flow-held p.missing missing _ _ (pick-t _ _ _ e) (untold (drains_missing c));
-        discontinuity = flow-none (held_in p.discontinuity) _ _ (pick-t _ _ _ e) (untold (drains_discontinuity c));
+        discontinuity = flow-none (unwrap_or p.discontinuity 0) _ _ (pick-t _ _ _ e) (untold (drains_discontinuity c));
       })
       (λ e.
       record {
-        missing = flow-none (held_in p.missing) _ _ (pick-f _ _ _ e) (untold (drains_missing c));
+        missing = flow-none (unwrap_or p.missing 0) _ _ (pick-f _ _ _ e) (untold (drains_missing c));
         discontinuity = flow-held p.discontinuity missing _ _ (pick-f _ _ _ e) (untold (drains_discontinuity c));
       })
 
@@ -99,7 +100,7 @@ module _ (rate : Float) (p : Pending) (c : Call) where
   event-moves Stale restart = moves-none rate p p c (heard Stale 0) refl refl refl refl
   event-moves Restart restart =
       record {
-        missing = flow-none (held_in p.missing) _ _ refl (untold (drains_missing c));
+        missing = flow-none (unwrap_or p.missing 0) _ _ refl (untold (drains_missing c));
         discontinuity = flow-held p.discontinuity restart _ _ refl (untold (drains_discontinuity c));
       }
 
@@ -167,13 +168,13 @@ answered-moves st (Take now buffer) = moves-none _ _ _ _ _ refl refl refl refl
 answered-moves st (Close d) = moves-none _ _ _ _ _ refl refl refl refl
 answered-moves st TakeMissing =
     record {
-      missing = flow-out (held_in (pending_of st).missing) 0 refl;
-      discontinuity = flow-none (held_in (pending_of st).discontinuity) 0 0 refl refl;
+      missing = flow-out (unwrap_or (pending_of st).missing 0) 0 refl;
+      discontinuity = flow-none (unwrap_or (pending_of st).discontinuity 0) 0 0 refl refl;
     }
 answered-moves st TakeDiscontinuity =
     record {
-      missing = flow-none (held_in (pending_of st).missing) 0 0 refl refl;
-      discontinuity = flow-out (held_in (pending_of st).discontinuity) 0 refl;
+      missing = flow-none (unwrap_or (pending_of st).missing 0) 0 0 refl refl;
+      discontinuity = flow-out (unwrap_or (pending_of st).discontinuity 0) 0 refl;
     }
 answered-moves st TakeStalled = moves-none _ _ _ _ _ refl refl refl refl
 

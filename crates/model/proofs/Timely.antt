@@ -13,7 +13,8 @@ use Rattle.wire.specs.Status.{overload_told, overloaded}
 use Rattle.model.specs.Answer.{ready, sent, done, tells}
 use Rattle.model.specs.Routing.{Routed, iq, status, ignored, malformed}
 use Rattle.model.specs.Host.{Incoming, Call, Begin, Pass, Arrival, Take, Close, TakeMissing, TakeDiscontinuity, TakeStalled, Step, trace}
-use Rattle.model.specs.State.{State, left, waits, is_open, or_zero, quiet_since_of, at_reading, replied, keeping}
+use Rattle.std.specs.Option.{unwrap_or}
+use Rattle.model.specs.State.{State, left, waits, is_open, quiet_since_of, at_reading, replied, keeping}
 use Rattle.model.specs.Table.{rows_of}
 use Rattle.tuning.specs.Rate.{khz_of}
 use Rattle.model.specs.Sending.{send, stop_packets, due_packets, wrote}
@@ -59,7 +60,7 @@ sending-same : (w : Watch) {k l : Clocks} {x y : Option Controller} → k ≡ l 
 sending-same w p q = rw (p, q) refl
 
 abbrev pub Anchored : ℕ → State → Type 0
-Anchored anchor st = is_open st.session.receiver ≡ true → or_zero st.session.receiver.reading.entered ≡ anchor
+Anchored anchor st = is_open st.session.receiver ≡ true → unwrap_or st.session.receiver.reading.entered 0 ≡ anchor
 
 -- what a call gave: the watch after it is that of the session after it, and it was on time
 pub record Fine (s : Settings) (w : Watch) (c : Call) (x : Step State) : Type 0 where
@@ -87,7 +88,7 @@ module _ (st : State) (a : ℕ) (h : Anchored a st) where
 
   begin-fine : (now : ℕ) → Fine set w (Begin now) (answered st (Begin now))
   unfolding begun_by left pick
-  begin-fine now = record { anchor = or_zero (or_at st.session.receiver.reading.wait_entered now); next = refl; anchored = λ _. refl; ontime = record { lists = refl; right = λ _. tt } }
+  begin-fine now = record { anchor = unwrap_or (or_at st.session.receiver.reading.wait_entered now) 0; next = refl; anchored = λ _. refl; ontime = record { lists = refl; right = λ _. tt } }
 
   take-fine : (now : ℕ) (buffer : List Float) → Fine set w (Take now buffer) (answered st (Take now buffer))
   unfolding hand_out handed left pick

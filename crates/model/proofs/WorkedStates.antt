@@ -32,7 +32,7 @@ use Rattle.model.specs.Edges.{listed}
 use Rattle.model.specs.declared.session.Common.{Common}
 use Rattle.model.proofs.Worked.{num, win, expecting_in}
 use Rattle.model.specs.Begin.{or_at, begun_by, begin}
-use Rattle.model.specs.State.{or_zero}
+use Rattle.std.specs.Option.{unwrap_or}
 use Rattle.model.specs.Host.{Begin}
 use Rattle.model.specs.Parts.{with_reading}
 use Rattle.model.specs.Rules.{begun}
@@ -78,10 +78,10 @@ kept_cases =
     -- Close leaves what waits
     ∷ num (left (left_by (having (λ r. with_queue_pos r 0)) (Close (replicate 2888 0)))) 238
     -- Begin: a wait anchor that is set stays, and the read takes it over; an empty one becomes the reading
-    ∷ num (or_zero (left_by (waiting_since (Some 5)) (Begin 9)).reading.wait_entered) 5
-    ∷ num (or_zero (left_by (waiting_since (Some 5)) (Begin 9)).reading.entered) 5
-    ∷ num (or_zero (left_by (waiting_since None) (Begin 9)).reading.wait_entered) 9
-    ∷ num (or_zero (left_by (waiting_since None) (Begin 9)).reading.entered) 9
+    ∷ num (unwrap_or (left_by (waiting_since (Some 5)) (Begin 9)).reading.wait_entered 0) 5
+    ∷ num (unwrap_or (left_by (waiting_since (Some 5)) (Begin 9)).reading.entered 0) 5
+    ∷ num (unwrap_or (left_by (waiting_since None) (Begin 9)).reading.wait_entered 0) 9
+    ∷ num (unwrap_or (left_by (waiting_since None) (Begin 9)).reading.entered 0) 9
     -- an arrival after a gap of one: what waits, the accepted time, the window, the number that is expected
     ∷ num (left_by (having (λ r. r)) (Arrival (iq_with 1000 2000 7 []) room)).queue_pos 0
     ∷ num (left_by (having (λ r. r)) (Arrival (iq_with 1000 2000 7 []) room)).last_accepted_iq 1000

@@ -1,6 +1,7 @@
 -- Counters and slots over a list of calls from a session just opened: what was told adds up to what is counted, drained and pending.
 -- What is claimed of the session. Definitions only.
 use Rattle.std.specs.Prelude.{◌≡◌, ℕ, ◌+◌, ◌*◌, ◌%◌, ◌^◌, ◌<◌, Bool, true, false, T, List, [], ◌∷◌, Float, Option, Some, None}
+use Rattle.std.specs.Option.{unwrap_or}
 use Rattle.base.specs.Pick.{pick}
 use Rattle.stream.specs.Size.{per_datagram}
 use Rattle.stream.specs.Elapsed.{below_half}
@@ -82,12 +83,8 @@ total f (r ∷ rs) = f r.answer + total f rs
 
 -- ---- what the drains returned
 
-abbrev pub held_in : Option ℕ → ℕ
-held_in None = 0
-held_in (Some n) = n
-
 abbrev pub held_by : Answer → ℕ
-held_by (slot held) = held_in held
+held_by (slot held) = unwrap_or held 0
 held_by (refused number) = 0
 held_by (done word) = 0
 held_by (heard event missing) = 0
@@ -129,9 +126,9 @@ pub record Counted (s : Settings) (calls : List Call) (replies : List Reply) (af
   pub malformed : after.common.health.malformed_packets ≡ total malformed_by replies % 2 ^ 64
   pub loss : loss_total after.common.health ≡ per_datagram * total dropped_by replies % 2 ^ 64
   pub missing : total (to_missing s.sample_rate_hz) replies < 2 ^ 64 →
-      drained drains_missing calls replies + held_in after.receiver.pending.missing ≡ total (to_missing s.sample_rate_hz) replies
+      drained drains_missing calls replies + unwrap_or after.receiver.pending.missing 0 ≡ total (to_missing s.sample_rate_hz) replies
   pub discontinuity : total (to_discontinuity s.sample_rate_hz) replies < 2 ^ 64 →
-      drained drains_discontinuity calls replies + held_in after.receiver.pending.discontinuity ≡ total (to_discontinuity s.sample_rate_hz) replies
+      drained drains_discontinuity calls replies + unwrap_or after.receiver.pending.discontinuity 0 ≡ total (to_discontinuity s.sample_rate_hz) replies
 
 -- of all accepted settings, opening readings and lists of calls
 abbrev pub Counts : List Float → Type 0

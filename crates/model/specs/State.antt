@@ -1,5 +1,6 @@
 -- The whole state of a session: its control, and the samples that are lent beside it. What of it the calls ask. Definitions only.
-use Rattle.std.specs.Prelude.{ℕ, ◌-◌, ◌*◌, max, Bool, true, false, not, ◌||◌, List, [], drop, nat_lt, Float, Option, Some, None}
+use Rattle.std.specs.Prelude.{ℕ, ◌-◌, ◌*◌, max, Bool, true, false, not, ◌||◌, List, [], drop, nat_lt, Float, is_some}
+use Rattle.std.specs.Option.{unwrap_or}
 use Rattle.stream.specs.Size.{per_datagram}
 use Rattle.model.specs.Answer.{Answer, refused}
 use Rattle.model.specs.Sample.{Sample, pairs}
@@ -25,21 +26,13 @@ waits r = nat_lt 0 (left r)
 unfoldable pub waiting_in : Receiver → List Float → List Sample
 waiting_in r samples = pairs (drop (2 * r.queue_pos) samples)
 
-abbrev pub is_set : Option ℕ → Bool
-is_set None = false
-is_set (Some t) = true
-
 -- a read is open where it has its anchor
 abbrev pub is_open : Receiver → Bool
-is_open r = is_set r.reading.entered
-
-abbrev pub or_zero : Option ℕ → ℕ
-or_zero None = 0
-or_zero (Some t) = t
+is_open r = is_some r.reading.entered
 
 -- when quiet began: at the last valid I/Q datagram or at the read's anchor, whichever is later
 unfoldable pub quiet_since_of : Receiver → ℕ
-quiet_since_of r = max r.last_valid_iq (or_zero r.reading.entered)
+quiet_since_of r = max r.last_valid_iq (unwrap_or r.reading.entered 0)
 
 -- ---- refusals
 

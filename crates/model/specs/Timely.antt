@@ -1,6 +1,7 @@
 -- Keepalives, stalls and steps over a list of calls from a session just opened: what each call is to list, and what a Pass is to tell,
 -- worked out from the calls and what their answers tell of the stream. A single claim, about any host. Definitions only.
 use Rattle.std.specs.Prelude.{◌≡◌, ℕ, ◌-◌, max, Bool, true, false, ◌&&◌, T, List, [], ◌∷◌, ◌++◌, nat_le, nat_lt, Option, Some, None}
+use Rattle.std.specs.Option.{unwrap_or}
 use Rattle.attenuator.specs.declared.Controller.{Controller}
 use Rattle.base.specs.Pick.{pick}
 use Rattle.base.specs.Told.{Told, gives, refused}
@@ -16,7 +17,6 @@ use Rattle.model.specs.Rules.{is_stale}
 use Rattle.model.specs.Routing.{Routed, iq, status, ignored, malformed, routed}
 use Rattle.model.specs.Settings.{accepts, attenuates}
 use Rattle.model.specs.Host.{Incoming, Call, Begin, Pass, Arrival, Take, Close, TakeMissing, TakeDiscontinuity, TakeStalled, Reply, Host, trace}
-use Rattle.model.specs.State.{or_zero}
 use Rattle.model.specs.Sending.{high_every, rx_tx_every, general_every}
 use Rattle.model.specs.Begin.{or_at}
 use Rattle.model.specs.Open.{attenuation_at}
@@ -175,7 +175,7 @@ reading w now =
       attenuation = w.attenuation;
       valid = w.valid;
       wait = or_at w.wait now;
-      anchor = or_zero (or_at w.wait now);
+      anchor = unwrap_or (or_at w.wait now) 0;
       delivering = w.delivering;
       waiting = w.waiting;
     }

@@ -13,5 +13,5 @@ pub struct Streams {
 pub fn destination(port: u16, offset: u8) -> u16
     ensures { result ≡ destination_of port offset }
 {
-    std::num::wrapping_add_u16(port, offset as u16)
+    port.wrapping_add(u16::from(offset))
 }

@@ -4,7 +4,7 @@ ghost use Rattle.tuning.specs.Centre.{whole_centre, below_nyquist};
 ghost use Rattle.model.specs.Settings.{settings_answer, settings_told};
 ghost use Rattle.opening.specs.Refusal.{number_of};
 
-use double::whole::{is_finite, is_whole};
+use double::whole::is_whole;
 use model::settings::{Settings, SettingsError};
 use tuning::rate::rate_khz;
 
@@ -18,7 +18,7 @@ const MAX_PORT: u16 = 65_524;
 fn whole_centre(f: f64) -> bool
     ensures { result ≡ whole_centre f }
 {
-    if !is_finite(f) {
+    if !f.is_finite() {
         return false;
     }
     if f > 0.0 {

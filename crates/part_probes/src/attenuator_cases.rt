@@ -36,12 +36,6 @@ fn called(c: &mut Controller, kind: u8, now: u64) -> Option<AttenuationStep> {
     }
 }
 
-fn wide(x: u8) -> u32
-    ensures { result < 256 }
-{
-    x as u32
-}
-
 fn of_cause(cause: AttenuationCause) -> u8 {
     match cause {
         AttenuationCause::Overload => 1,
@@ -52,12 +46,12 @@ fn of_cause(cause: AttenuationCause) -> u8 {
 // Four octets: a step's cause, the level that it left and the one that it led to, each 0 where there is none, and the level.
 fn told(step: Option<AttenuationStep>, db: u8) -> u32 {
     match step {
-        None => wide(db),
+        None => u32::from(db),
         Some(s) => {
-            wide(of_cause(s.cause)) * 16777216
-                + wide(s.from_db) * 65536
-                + wide(s.to_db) * 256
-                + wide(db)
+            u32::from(of_cause(s.cause)) * 16777216
+                + u32::from(s.from_db) * 65536
+                + u32::from(s.to_db) * 256
+                + u32::from(db)
         }
     }
 }

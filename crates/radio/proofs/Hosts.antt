@@ -5,9 +5,11 @@ use mathlib.Core.Path.{◌≡◌, refl, sym, ap, ◌∙◌, subst}
 use mathlib.Core.Bool.{Bool, true, false, cond}
 use mathlib.Core.List.{List, []}
 use native.Mathlib.Omega.{arith}
+use lib.ListN.{length}
 use lib.Dec.{T, leb, eqb}
 use lib.Ieee.Bits.{is_true}
 use borrow.Author.Tests.{eq-eqb, le-leb}
+use Rattle.base.specs.Pick.{pick}
 use Rattle.base.specs.Told.{gives}
 use Rattle.octets.specs.Packet.{Field, packet}
 use Rattle.octets.specs.Order.{same}
@@ -21,10 +23,14 @@ use Rattle.wire.specs.declared.command.Stream.TheVariants.{General, RxSpecific, 
 use Rattle.wire.proofs.ReadBack.{general-length, general-reads, rx-length, rx-reads, tx-length, tx-reads, high-length, high-reads}
 use Rattle.radio.specs.Answer.{outcome}
 use Rattle.radio.specs.State.{with_general, with_rx_specific, with_tx_specific, with_high_priority}
-use Rattle.radio.specs.Command.{named, plain, valued, command_read, high_priority_in}
+use Rattle.radio.specs.Command.{named, plain, valued, kept, command_read, high_priority_in}
 use Rattle.radio.specs.declared.state.HighPriority as state
 use Rattle.radio.specs.declared.state.Radio.{Radio}
-use Rattle.radio.proofs.Outcomes.{of_right}
+
+-- a packet as long as its stream's, with its fixed octets and values, is kept
+of_right : (r : Radio) (k : Stream) (p : List ℕ) → length p ≡ size_of k → plain k p ≡ true → valued k p ≡ true → outcome (gives []) (kept k p r) ≡ command_read r k p
+unfolding command_read pick
+of_right r k p e h v = rw (eq-eqb (length p) (size_of k) e, h, v) refl
 
 -- a packet of fields that are those which the radio finds named in it
 plain_of : (k : Stream) (p : List ℕ) (fs : List Field) → p ≡ packet (size_of k) fs → named k p ≡ fs → plain k p ≡ true

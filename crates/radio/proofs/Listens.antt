@@ -1,7 +1,7 @@
 -- The packets of a call, read one after another: which stream an offset is, and one packet more. Assumes nothing.
 use Rattle.std.specs.Prelude.{Option, Some, None}
-use Prim.Native.Nat.{ℕ, zero, suc, ◌+◌, ◌-◌, ◌≤◌, ◌<◌, min}
-use mathlib.Core.Path.{◌≡◌, refl, sym, ap, ◌∙◌}
+use Prim.Native.Nat.{ℕ, ◌+◌, ◌-◌, ◌≤◌, ◌<◌, min}
+use mathlib.Core.Path.{◌≡◌, sym, ap, ◌∙◌}
 use mathlib.Core.List.{List, ◌∷◌}
 use lib.ListN.{length, get_or, take, drop, length-drop, drop_of_length-le}
 use lib.Seq.{drop-cons, drop-drop, take_all}
@@ -17,13 +17,6 @@ use Rattle.radio.specs.Command.{command_read}
 use Rattle.radio.specs.Listen.{stream_at, where_known, cut, received, after, is_accepted, accepted}
 use Rattle.radio.specs.declared.listen.Received.{Received}
 use Rattle.radio.specs.declared.state.Radio.{Radio}
-
-pub no_stream : (n : ℕ) → (n ≡ 0 → ⊥) → (n ≡ 1 → ⊥) → (n ≡ 2 → ⊥) → (n ≡ 3 → ⊥) → None ≡ stream_at n
-no_stream zero a b c d = absurd (a refl)
-no_stream (suc zero) a b c d = absurd (b refl)
-no_stream (suc (suc zero)) a b c d = absurd (c refl)
-no_stream (suc (suc (suc zero))) a b c d = absurd (d refl)
-no_stream (suc (suc (suc (suc n)))) a b c d = refl
 
 -- so many were accepted before these
 abbrev pub onward : Radio → ℕ → List Outcome → Received

@@ -2,7 +2,7 @@
 -- fields stored in them. Assumes nothing.
 use Prim.Native.Nat.{ℕ, ◌%◌, ◌^◌}
 use mathlib.Core.Path.{◌≡◌, refl, sym, ◌∙◌, subst}
-use mathlib.Core.Bool.{Bool, true, false, ◌&&◌}
+use mathlib.Core.Bool.{Bool, true, ◌&&◌}
 use mathlib.Core.List.{List}
 use lib.ListN.{length, get_or}
 use lib.Dec.{T, eqb, eqb→eq}
@@ -149,14 +149,3 @@ module _ (p : List ℕ) (o : Octets p) where
       (λ g r.
       both_true (z && y) (x && w) (yes (z && y) (both_true z y (h.1 g.1.1.0) (k.1 g.1.1.1.0)))
       (yes (x && w) (both_true x w (l.1 g.1.1.1.1.0) (m.1 g.1.1.1.1.1.1.0))))
-
--- ---- the code's tests joined
-
-pub joined : {r a b x y : Bool} → r ≡ (a && b) → a ≡ x → b ≡ y → r ≡ (x && y)
-joined p q s = rw (← q, ← s) p
-
-pub and_no : (a b : Bool) → a ≡ false → false ≡ (a && b)
-and_no a b h = rw h
-
-pub and_yes : (a b : Bool) → a ≡ true → b ≡ (a && b)
-and_yes a b h = rw h

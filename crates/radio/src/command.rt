@@ -22,15 +22,6 @@ use wire::packet::{
 // Every command starts with its count, of four octets.
 const SEQ_END: usize = SEQ_OFFSET + 4;
 
-fn both(a: bool, b: bool) -> bool
-    ensures { result ≡ (a && b) }
-{
-    if !a {
-        return false;
-    }
-    b
-}
-
 // ---- the octets that are fixed: named ones have their value, and between the named ones all is 0
 
 fn general_is_plain(p: &[u8]) -> bool
@@ -41,7 +32,7 @@ fn general_is_plain(p: &[u8]) -> bool
     let past = is_zero(p, GENERAL_WATCHDOG + 1, GENERAL_FILTER_ENABLE);
     let mode = p[GENERAL_FREQ_MODE] == GENERAL_FREQ_MODE_PHASE_WORDS;
     let watchdog = p[GENERAL_WATCHDOG] == GENERAL_WATCHDOG_ON;
-    both(both(before, past), both(mode, watchdog))
+    before & past & (mode & watchdog)
 }
 
 fn rx_specific_is_plain(p: &[u8]) -> bool
@@ -54,10 +45,7 @@ fn rx_specific_is_plain(p: &[u8]) -> bool
     let past = is_zero(p, RX_DDC0_BITS + 1, RX_SPECIFIC_LEN);
     let set = p[RX_DDC_ENABLE] == RX_DDC_ENABLE_DDC0;
     let bits = p[RX_DDC0_BITS] == BITS_PER_SAMPLE as u8;
-    both(
-        both(both(before, between), both(behind, past)),
-        both(set, bits),
-    )
+    before & between & (behind & past) & (set & bits)
 }
 
 fn tx_specific_is_plain(p: &[u8]) -> bool
@@ -65,7 +53,7 @@ fn tx_specific_is_plain(p: &[u8]) -> bool
     ensures { result ≡ plain Stream.TxSpecific p.now }
 {
     let past = is_zero(p, TX_DAC_COUNT + 1, TX_SPECIFIC_LEN);
-    both(past, p[TX_DAC_COUNT] == TX_ONE_DAC)
+    past & (p[TX_DAC_COUNT] == TX_ONE_DAC)
 }
 
 fn high_priority_is_plain(p: &[u8]) -> bool
@@ -76,7 +64,7 @@ fn high_priority_is_plain(p: &[u8]) -> bool
     let between = is_zero(p, HP_DDC0_PHASE + 4, HP_DUC_PHASE);
     let behind = is_zero(p, HP_DUC_PHASE + 4, HP_ALEX1);
     let past = is_zero(p, HP_ALEX0 + 4, HP_STEP_ATTENUATOR_ADC0);
-    both(both(before, between), both(behind, past))
+    before & between & (behind & past)
 }
 
 // ---- what each packet sets
@@ -149,7 +137,7 @@ fn high_priority_is_valued(p: &[u8]) -> bool
     let run = p[HP_RUN] <= HP_RUN_BIT;
     let alike = get_u32(p, HP_DDC0_PHASE) == get_u32(p, HP_DUC_PHASE);
     let within = p[HP_STEP_ATTENUATOR_ADC0] <= MAX_STEP_ATTENUATION_DB;
-    both(run, both(alike, within))
+    run & (alike & within)
 }
 
 fn is_valued(stream: Stream, p: &[u8]) -> bool
@@ -179,6 +167,7 @@ fn set_by(radio: Radio, stream: Stream, p: &[u8]) -> Radio
 }
 
 // The packet of a stream, of any length. Refused, the radio is as it was; accepted, it keeps the packet's count and fields.
+#[tactic(auto, unfolding(base::specs::Pick::pick, crate::specs::Command::command_read))]
 pub fn read_command(radio: Radio, stream: Stream, packet: &[u8]) -> Heard
     ensures { outcome_of result ≡ command_read radio stream packet.now }
 {

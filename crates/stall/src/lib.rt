@@ -5,8 +5,6 @@
 ghost use Rattle.std.specs.Prelude.{◌≡◌};
 ghost use Rattle.stall.specs.Episode.{unarmed, delivered, is_due, reported, taken};
 
-use double::time::since;
-
 #[derive(Clone, Copy)]
 pub struct StallEpisode {
     // samples came since the last report
@@ -33,6 +31,7 @@ impl StallEpisode {
 
     // Whether the report is due now, the last sample being of the reading `last`: `soft` nanoseconds after it. Where the hard
     // deadline is not the longer one, the outage is left to it.
+    #[tactic(auto, unfolding(crate::specs::Episode::is_due))]
     pub fn due(self, last: u64, now: u64, soft: u64, hard: u64) -> bool
         ensures { result ≡ is_due self last now soft hard }
     {
@@ -42,7 +41,7 @@ impl StallEpisode {
         if hard <= soft {
             return false;
         }
-        since(now, last) >= soft
+        now.saturating_sub(last) >= soft
     }
 
     // Makes the report, and none more before the next delivery.

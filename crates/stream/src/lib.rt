@@ -5,7 +5,7 @@ ghost use Rattle.std.specs.Prelude.{◌≡◌};
 ghost use Rattle.stream.specs.Elapsed.{jump_limit, restart_missing, account_time, covered_time, below_half};
 
 use double::time::{nanoseconds, seconds};
-use double::whole::{ceil_u64, floor_u64, round, saturating_add};
+use double::whole::{ceil_u64, floor_u64, round};
 
 // The I/Q pairs of a datagram.
 pub const SAMPLES_PER_DATAGRAM: u64 = 238;
@@ -27,10 +27,7 @@ pub const MAX_BUFFERED_DATAGRAMS: u64 = 8192;
 pub fn jump_limit(ns: u64, rate: f64) -> u64
     ensures { result ≡ jump_limit ns rate }
 {
-    saturating_add(
-        ceil_u64(seconds(ns) * (rate / PER_DATAGRAM) * 1.01),
-        MAX_BUFFERED_DATAGRAMS,
-    )
+    ceil_u64(seconds(ns) * (rate / PER_DATAGRAM) * 1.01).saturating_add(MAX_BUFFERED_DATAGRAMS)
 }
 
 // What a restart misses after ns nanoseconds: the samples of that time, without the datagram that came.

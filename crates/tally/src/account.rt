@@ -7,7 +7,6 @@ ghost use Rattle.tally.specs.declared.record.Event.TheVariants.{Restart};
 
 use super::record::{Event, Record};
 use super::stretch::{Stretch, first, more};
-use std::num::wrapping_add_u64;
 
 // The most stretches of a session.
 pub const STRETCHES: usize = 4096;
@@ -170,6 +169,6 @@ pub fn hand(a: Account, pairs: u64) -> Account
     Account {
         stretches,
         last,
-        handed: wrapping_add_u64(a.handed, pairs),
+        handed: a.handed.wrapping_add(pairs),
     }
 }

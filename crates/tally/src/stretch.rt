@@ -3,7 +3,6 @@ ghost use Rattle.std.specs.Prelude.{◌≡◌};
 ghost use Rattle.tally.specs.Stretch.{first_of, more_of, plus_of};
 
 use super::record::Record;
-use std::num::{wrapping_add_u64, wrapping_sub_u32};
 use stream::SAMPLES_PER_DATAGRAM;
 
 // It begins with the session's first arrival, or with one told Restart.
@@ -25,6 +24,7 @@ pub struct Stretch {
 }
 
 // That of one arrival.
+#[tactic(auto, unfolding(crate::specs::Stretch::first_of))]
 pub fn first(x: Record) -> Stretch
     ensures { result ≡ first_of x }
 {
@@ -32,28 +32,29 @@ pub fn first(x: Record) -> Stretch
     Stretch {
         at,
         last: at,
-        first: x.number as u64,
+        first: u64::from(x.number),
         restart: x.missing,
-        highest: x.number as u64,
+        highest: u64::from(x.number),
         samples: SAMPLES_PER_DATAGRAM,
         missing: 0,
     }
 }
 
 // An accepted arrival more, which is told in order or a gap.
+#[tactic(auto, unfolding(crate::specs::Stretch::more_of))]
 pub fn more(s: Stretch, x: Record) -> Stretch
     ensures { result ≡ more_of s x }
 {
     let number = x.number;
-    let step = wrapping_sub_u32(number, (s.highest % 4294967296) as u32);
+    let step = number.wrapping_sub((s.highest % 4294967296) as u32);
     Stretch {
         at: s.at,
         last: x.reading,
         first: s.first,
         restart: s.restart,
-        highest: wrapping_add_u64(s.highest, step as u64),
-        samples: wrapping_add_u64(s.samples, SAMPLES_PER_DATAGRAM),
-        missing: wrapping_add_u64(s.missing, x.missing),
+        highest: s.highest.wrapping_add(u64::from(step)),
+        samples: s.samples.wrapping_add(SAMPLES_PER_DATAGRAM),
+        missing: s.missing.wrapping_add(x.missing),
     }
 }
 
@@ -66,12 +67,13 @@ pub struct Sums {
 }
 
 // One stretch more.
+#[tactic(auto, unfolding(crate::specs::Stretch::plus_of))]
 pub fn plus(t: Sums, s: Stretch) -> Sums
     ensures { result ≡ plus_of t s }
 {
     Sums {
-        samples: wrapping_add_u64(t.samples, s.samples),
-        missing: wrapping_add_u64(t.missing, s.missing),
-        restart: wrapping_add_u64(t.restart, s.restart),
+        samples: t.samples.wrapping_add(s.samples),
+        missing: t.missing.wrapping_add(s.missing),
+        restart: t.restart.wrapping_add(s.restart),
     }
 }

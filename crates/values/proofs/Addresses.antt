@@ -12,7 +12,8 @@ use Rattle.text.specs.Name.{ascii, same}
 use Rattle.text.specs.Run.{run, is, other}
 use Rattle.text.specs.Split.{parts}
 use Rattle.std.specs.Prelude.{Option, Some, None}
-use Rattle.values.specs.Value.{given, then, number, octets_after, ipv4, host, sender_at, sender}
+use Rattle.std.specs.Option.{option_map, option_and_then}
+use Rattle.values.specs.Value.{number, octets_after, ipv4, host, sender_at, sender}
 use Rattle.values.proofs.Values.{then-no, then-yes, number-most}
 
 -- what a number of as many octets as are read, of four, is below
@@ -40,14 +41,14 @@ bound-fits (suc (suc (suc (suc k)))) n h = omega arith
 
 -- an address fits 32 bits
 octets-below : (k n : ℕ) (ps : List (List ℕ)) (a : ℕ) → k ≤ 4 → n < bound k → octets_after k n ps ≡ Some a → a < 4294967296
-unfolding octets_after given
+unfolding octets_after
 octets-below zero n [] a l h e = let z : n ≡ a = cc in omega arith
 octets-below zero n (p ∷ ps) a l h e = let z : ◌≡◌ {A = ℕ} 0 1 = cc in absurd (omega arith)
 octets-below (suc k) n [] a l h e = let z : ◌≡◌ {A = ℕ} 0 1 = cc in absurd (omega arith)
 octets-below (suc k) n (p ∷ ps) a l h e = go (λ v b q. octets-below k (n * 256 + v) ps a (omega arith) (bound-next k n v (omega arith) h b) q) (number 255 p) refl e
   where
     go : ((v : ℕ) → v ≤ 255 → octets_after k (n * 256 + v) ps ≡ Some a → a < 4294967296)
-        → (x : Option ℕ) → number 255 p ≡ x → then x (λ v. octets_after k (n * 256 + v) ps) ≡ Some a → a < 4294967296
+        → (x : Option ℕ) → number 255 p ≡ x → option_and_then (λ v. octets_after k (n * 256 + v) ps) x ≡ Some a → a < 4294967296
     go f (Some v) t e = f v (number-most 255 p v t) e
     go f None t e = let z : ◌≡◌ {A = ℕ} 0 1 = cc in absurd (omega arith)
 
@@ -132,8 +133,8 @@ module _ (w : List ℕ) (colon : ℕ) (e : colon ≡ run (other 58) w) where
 
     pub no-port : (a : ℕ) → host (take colon w) ≡ Some a → number 65535 (drop (colon + 1) w) ≡ None → None ≡ sender w
     unfolding sender_at
-    no-port a r p = sym (pick-t _ _ _ (lt-ltb _ _ h) ∙ then-yes _ _ a r ∙ then-no _ _ p) ∙ at-colon
+    no-port a r p = sym (pick-t _ _ _ (lt-ltb _ _ h) ∙ then-yes _ _ a r ∙ ap (option_map _) p) ∙ at-colon
 
     pub with-port : (a p : ℕ) → host (take colon w) ≡ Some a → number 65535 (drop (colon + 1) w) ≡ Some p → Some (a * 65536 + p) ≡ sender w
     unfolding sender_at
-    with-port a p r q = sym (pick-t _ _ _ (lt-ltb _ _ h) ∙ then-yes _ _ a r ∙ then-yes _ _ p q) ∙ at-colon
+    with-port a p r q = sym (pick-t _ _ _ (lt-ltb _ _ h) ∙ then-yes _ _ a r ∙ ap (option_map _) q) ∙ at-colon

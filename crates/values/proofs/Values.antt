@@ -1,5 +1,5 @@
 -- What each way through a reader of a word gives. Assumes nothing.
-use mathlib.Core.Path.{◌≡◌, refl}
+use mathlib.Core.Path.{◌≡◌, refl, ap}
 use mathlib.Core.Bool.{Bool, true, false, not}
 use mathlib.Core.List.{List}
 use Prim.Native.Nat.{ℕ, ◌≤◌, ◌<◌}
@@ -11,9 +11,10 @@ use lib.Ieee.{Float, nan, inf, fin, binary64, of_int, is_nan}
 use lib.Ieee.Back.{round_whole}
 use lib.Ieee.Exact.{HasValue}
 use Rattle.std.specs.Prelude.{SomeIff, Option, Some, None}
+use Rattle.std.specs.Option.{option_and_then}
 use Rattle.base.specs.Pick.{pick}
 use Rattle.text.specs.Number.{digits_of}
-use Rattle.values.specs.Value.{given, then, up_to, number}
+use Rattle.values.specs.Value.{given, up_to, number}
 
 module _ {A : Type 0} (x : Option ℕ) (f : ℕ → A) (z : A) where
   pub given-no : x ≡ None → given x f z ≡ z
@@ -25,11 +26,11 @@ module _ {A : Type 0} (x : Option ℕ) (f : ℕ → A) (z : A) where
   given_yes n e = rw e
 
 module _ (x : Option ℕ) (f : ℕ → Option ℕ) where
-  pub then-no : x ≡ None → then x f ≡ None
-  then-no = given-no x f None
+  pub then-no : x ≡ None → option_and_then f x ≡ None
+  then-no e = ap (option_and_then f) e
 
-  pub then-yes : (n : ℕ) → x ≡ Some n → then x f ≡ f n
-  then-yes = given_yes x f None
+  pub then-yes : (n : ℕ) → x ≡ Some n → option_and_then f x ≡ f n
+  then-yes n e = ap (option_and_then f) e
 
 -- a product that fits 64 bits, as `checked_mul` gives it
 pub checked : (r : Option ℕ) (m : ℕ) → SomeIff r (m < 18446744073709551616) m → r ≡ pick (leb m 18446744073709551615) (Some m) None
@@ -39,20 +40,20 @@ checked (Some v) m (p, e) = rw (le-leb m 18446744073709551615 (omega arith), e)
 
 -- a number that was read is within its limit
 pub number-most : (m : ℕ) (w : List ℕ) (n : ℕ) → number m w ≡ Some n → n ≤ m
-unfolding number given pick
+unfolding number pick
 number-most m w n e = go (digits_of 10 w) e
   where
     held : (v : ℕ) (b : Bool) → leb v m ≡ b → pick b (Some v) None ≡ Some n → n ≤ m
     held v true t e = omega (arith, leb-true v m t, (let z : v ≡ n = cc in z))
     held v false t e = let z : ◌≡◌ {A = ℕ} 0 1 = cc in absurd (omega arith)
 
-    go : (x : Option ℕ) → then x (λ v. pick (leb v m) (Some v) None) ≡ Some n → n ≤ m
+    go : (x : Option ℕ) → option_and_then (λ v. pick (leb v m) (Some v) None) x ≡ Some n → n ≤ m
     go (Some v) e = held v (leb v m) refl e
     go None e = let z : ◌≡◌ {A = ℕ} 0 1 = cc in absurd (omega arith)
 
 -- what is held to a limit was spelt
 pub up-to-number : (m : ℕ) (x : Option ℕ) (n : ℕ) → up_to m x ≡ Some n → x ≡ Some n
-unfolding given pick
+unfolding pick
 up-to-number m (Some v) n e = held (leb v m) e
   where
     held : (b : Bool) → pick b (Some v) None ≡ Some n → Some v ≡ Some n

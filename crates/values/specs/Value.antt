@@ -1,5 +1,6 @@
 -- A number, a reading, a double and an IPv4 address, as a word spells each. Definitions only.
 use Rattle.std.specs.Prelude.{ℕ, zero, suc, ◌+◌, ◌-◌, ◌*◌, ◌^◌, Bool, List, [], ◌∷◌, ltb, leb, eqb, pos, length, take, drop, Option, Some, None}
+use Rattle.std.specs.Option.{option_map, option_and_then}
 use Rattle.std.specs.Float.{binary64}
 use Rattle.std.specs.Float.Ieee.{of_int, to_bits}
 use Rattle.base.specs.Pick.{pick}
@@ -8,17 +9,15 @@ use Rattle.text.specs.Split.{parts}
 use Rattle.text.specs.Name.{ascii, same}
 use Rattle.text.specs.Number.{digits_of}
 
--- what is made of a number where one is spelt, and what else
+-- What is made of a number where one is spelt, and what else. std's `option_map_or` says the same, but computes wherever it stands:
+-- this one is shut, so that a proof of a line goes by what is spelt, and not by the cases of each word in it
 unfoldable pub given : {A : Type 0} → Option ℕ → (ℕ → A) → A → A
 given (Some n) f z = f n
 given None f z = z
 
-abbrev pub then : Option ℕ → (ℕ → Option ℕ) → Option ℕ
-then x f = given x f None
-
 -- at most m
 abbrev pub up_to : ℕ → Option ℕ → Option ℕ
-up_to m x = then x (λ n. pick (leb n m) (Some n) None)
+up_to m x = option_and_then (λ n. pick (leb n m) (Some n) None) x
 
 -- decimal digits
 unfoldable pub number : ℕ → List ℕ → Option ℕ
@@ -29,7 +28,7 @@ ends w unit = same (drop (length w - length unit) w) unit
 
 -- the word without its last n, as so many times k, below 2^64
 unfoldable pub timed : ℕ → ℕ → List ℕ → Option ℕ
-timed n k w = then (digits_of 10 (take (length w - n) w)) (λ v. pick (leb (v * k) 18446744073709551615) (Some (v * k)) None)
+timed n k w = option_and_then (λ v. pick (leb (v * k) 18446744073709551615) (Some (v * k)) None) (digits_of 10 (take (length w - n) w))
 
 -- nanoseconds, or a number with its unit straight after it
 unfoldable pub reading : List ℕ → Option ℕ
@@ -40,7 +39,7 @@ reading w =
     (digits_of 10 w)))
 
 unfoldable pub exact : List ℕ → Option ℕ
-exact w = then (number 9007199254740992 w) (λ n. Some (to_bits binary64 (of_int binary64 (pos n))))
+exact w = option_map (λ n. to_bits binary64 (of_int binary64 (pos n))) (number 9007199254740992 w)
 
 -- the bits of a double: a number up to 2^53, or `bits:` and 16 hexadecimal digits
 unfoldable pub double : List ℕ → Option ℕ
@@ -53,7 +52,7 @@ unfoldable pub octets_after : ℕ → ℕ → List (List ℕ) → Option ℕ
 octets_after zero n [] = Some n
 octets_after zero n (p ∷ ps) = None
 octets_after (suc k) n [] = None
-octets_after (suc k) n (p ∷ ps) = then (number 255 p) (λ v. octets_after k (n * 256 + v) ps)
+octets_after (suc k) n (p ∷ ps) = option_and_then (λ v. octets_after k (n * 256 + v) ps) (number 255 p)
 
 -- A.B.C.D as one number, A the highest
 unfoldable pub ipv4 : List ℕ → Option ℕ
@@ -67,7 +66,7 @@ host w = pick (same w (ascii "v6")) (Some (2 ^ 32)) (ipv4 w)
 unfoldable pub sender_at : ℕ → List ℕ → Option ℕ
 sender_at colon w =
     pick (ltb colon (length w))
-    (then (host (take colon w)) (λ a. then (number 65535 (drop (colon + 1) w)) (λ p. Some (a * 65536 + p))))
+    (option_and_then (λ a. option_map (λ p. a * 65536 + p) (number 65535 (drop (colon + 1) w))) (host (take colon w)))
     None
 
 unfoldable pub sender : List ℕ → Option ℕ

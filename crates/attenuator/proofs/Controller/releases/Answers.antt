@@ -14,4 +14,4 @@ pub returns : goal.returns
 unfolding releases
 returns c =
     let k = c.args.self in
-    rw (ne_eqb k.db 0 (λ e. omega arith)) (ap (leb k.timing.release_after) c.since.ensures)
+    rw (ne_eqb k.db 0 (λ e. omega arith)) (ap (leb k.timing.release_after) c.saturating_sub.ensures)

@@ -11,12 +11,12 @@ returns-in_default c =
     let a = c.args in
     first-overload a.self a.now c.in_default.is
 
-pub returns-then-since-self : goal.returns-then-since-self
-returns-then-since-self c =
+pub returns-then-saturating_sub-self : goal.returns-then-saturating_sub-self
+returns-then-saturating_sub-self c =
     let a = c.args in
-    lapsed a.self a.now c.in-Some.last c.in-Some.is (omega (arith, c.since.ensures))
+    lapsed a.self a.now c.in-Some.last c.in-Some.is (omega (arith, c.saturating_sub.ensures))
 
 pub returns : goal.returns
 returns c =
     let a = c.args in
-    c.unwrap_or.ensures ∙ goes_on a.self a.now c.in-Some.last c.in-Some.is (omega (arith, c.since.ensures))
+    c.unwrap_or.ensures ∙ goes_on a.self a.now c.in-Some.last c.in-Some.is (omega (arith, c.saturating_sub.ensures))

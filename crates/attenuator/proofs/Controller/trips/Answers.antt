@@ -14,4 +14,4 @@ pub returns : goal.returns
 unfolding trips
 returns c =
     let k = c.args.self in
-    rw (lt-ltb k.db 30 (omega arith)) (ap (leb k.timing.trip_after) c.since.ensures)
+    rw (lt-ltb k.db 30 (omega arith)) (ap (leb k.timing.trip_after) c.saturating_sub.ensures)

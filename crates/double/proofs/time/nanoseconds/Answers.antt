@@ -2,12 +2,13 @@
 use Rattle.std.proofs.Common.{T, sym, ◌∙◌, subst, arith}
 use lib.Ieee.{of_bits}
 use Rattle.double.specs.Seconds.{nanos_at}
+use Rattle.double.proofs.Decode.{tested}
 use Rattle.double.proofs.Wholes.{nat-plain, plain-above, nat-none, nat_over}
 use Rattle.double.proofs.Nanos.{by_parts, nanos-zero}
 use Rattle.double.proofs.time.nanoseconds.Goals as goal
 
 pub apart-p-requires : goal.apart-p-requires
-apart-p-requires c = subst T (sym (sym c.is_finite.ensures ∙ c.if-is_finite.true)) tt
+apart-p-requires c = subst T (sym (tested c.args.x c.is_finite.ensures.value c.if-is_finite.true)) tt
 
 pub nanos_of-requires : goal.nanos_of-requires
 nanos_of-requires c = (c.apart-p.ensures.small, λ h. c.apart-p.ensures.full (omega arith))
@@ -18,11 +19,11 @@ returns-then-is_finite c =
     let x = c.args.x in
     c.nanos_of.ensures
     ∙ by_parts x c.apart-p.result.negative c.apart-p.result.digits c.apart-p.result.scale c.apart-p.ensures
-    ∙ sym (nat-plain nanos_at x (plain-above x c.if-x.true (sym c.is_finite.ensures ∙ c.if-is_finite.true)))
+    ∙ sym (nat-plain nanos_at x (plain-above x c.if-x.true (tested c.args.x c.is_finite.ensures.value c.if-is_finite.true)))
 
 pub returns-then-x : goal.returns-then-x
 unfolding of_bits
-returns-then-x c = sym (nat_over nanos_at c.args.x c.if-x.true (sym c.is_finite.ensures ∙ c.if-is_finite.false))
+returns-then-x c = sym (nat_over nanos_at c.args.x c.if-x.true (tested c.args.x c.is_finite.ensures.value c.if-is_finite.false))
 
 pub returns : goal.returns
 unfolding of_bits

@@ -1,12 +1,10 @@
 -- `radio::command::rx_specific_is_plain` meets its contract: four runs of zeros, and two octets that are fixed. Assumes nothing.
 use native.Mathlib.Omega.{arith}
-use mathlib.Core.Path.{◌∙◌}
-use Rattle.radio.proofs.Plains.{joined, rx-plain}
+use Rattle.radio.proofs.Plains.{rx-plain}
 use Rattle.radio.proofs.command.rx_specific_is_plain.Goals as goal
 
 pub returns : goal.returns
 returns c =
     let a = c.args.p.now in
-    joined c.both-5.ensures (joined c.both-3.ensures c.both.ensures c.both-2.ensures) c.both-4.ensures
-    ∙ rx-plain a (λ k. omega (arith, c.type_inv.p k)) c.requires _ _ _ _
+    rx-plain a (λ k. omega (arith, c.type_inv.p k)) c.requires _ _ _ _
     c.is_zero-before.ensures c.is_zero-between.ensures c.is_zero-behind.ensures c.is_zero-past.ensures

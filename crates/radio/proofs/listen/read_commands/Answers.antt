@@ -1,7 +1,7 @@
 -- `radio::listen::read_commands` meets its contract: what is read of the packets passed, and what is left of them, is all of them.
 -- Assumes nothing.
 use Prim.Native.Nat.{ℕ, ◌+◌, min}
-use mathlib.Core.Path.{refl, sym, ap, ◌∙◌}
+use mathlib.Core.Path.{sym, ap, ◌∙◌}
 use lib.ListN.{length, drop}
 use native.Mathlib.Omega.{arith}
 use Rattle.radio.specs.Answer.{command_answer, outcome_of}
@@ -9,18 +9,12 @@ use Rattle.radio.specs.Listen.{cut, received}
 use Rattle.radio.proofs.Listens.{onward, at_first, at_most_one, onward-end, onward-nowhere, onward-more}
 use Rattle.radio.proofs.listen.read_commands.Goals as goal
 
-pub loop-offset-init : goal.loop-offset-init
-loop-offset-init c = (omega arith, omega arith, refl)
-
 pub returns-in_default : goal.returns-in_default
 returns-in_default c =
     let a = c.args in
     onward-nowhere a.offsets.now a.packets.now c.loop-offset.offset-index c.loop-offset.at c.loop-offset.next c.loop-offset.accepted (omega arith) (sym (sym c.in_default.is ∙ c.stream_at.ensures))
     ∙ sym c.loop-offset.invariant.2
     ∙ sym (at_first a.radio (received a.radio (cut a.offsets.now a.packets.now)))
-
-pub overflow_add-accepted : goal.overflow_add-accepted
-overflow_add-accepted c = omega (arith, at_most_one (command_answer c.read_command-heard.result.answer))
 
 pub loop-offset-preserved : goal.loop-offset-preserved
 loop-offset-preserved c =

@@ -1,6 +1,6 @@
 -- `radio::listen::read_commands` meets its contract: what is read of the packets passed, and what is left of them, is all of them.
 -- Assumes nothing.
-use Prim.Native.Nat.{◌-◌, ◌≤◌}
+use Prim.Native.Nat.{◌≤◌}
 use mathlib.Core.Path.{◌≡◌}
 use lib.ListN.{length, drop}
 use Rattle.radio.specs.Listen.{cut, received}

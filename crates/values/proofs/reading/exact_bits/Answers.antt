@@ -1,18 +1,19 @@
 -- `values::reading::exact_bits` casts a number that is a double exactly. Assumes nothing.
-use mathlib.Core.Path.{◌≡◌, sym, ◌∙◌}
+use mathlib.Core.Path.{◌≡◌, sym, ap, ◌∙◌}
 use lib.Dec.{le→leb}
 use lib.Ieee.{in_float}
 use borrow.Author.Rules.{rules}
 use Rattle.std.specs.Prelude.{None}
+use Rattle.std.specs.Option.{option_map}
 use Rattle.values.specs.Value.{exact}
-use Rattle.values.proofs.Values.{then-no, then-yes, number-most, whole-no-nan}
+use Rattle.values.proofs.Values.{number-most, whole-no-nan}
 use Rattle.values.proofs.reading.exact_bits.Goals as goal
 
 pub returns-in_err-n : goal.returns-in_err-n
 unfolding exact
 returns-in_err-n c =
     let e : c.from_residual.result ≡ None = search rules in
-    e ∙ sym (then-no _ _ (sym c.number.ensures ∙ c.in_err-n.was))
+    e ∙ sym (ap (option_map _) (sym c.number.ensures ∙ c.in_err-n.was))
 
 pub int_to_float-result : goal.int_to_float-result
 unfolding in_float
@@ -23,4 +24,4 @@ float_to_bits-result c = whole-no-nan _ (number-most _ _ _ (sym c.number.ensures
 
 pub returns : goal.returns
 unfolding exact
-returns c = sym (then-yes _ _ _ (sym c.number.ensures ∙ c.in_ok-n.was))
+returns c = sym (ap (option_map _) (sym c.number.ensures ∙ c.in_ok-n.was))
