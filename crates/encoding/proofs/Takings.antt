@@ -1,5 +1,5 @@
 -- What a call takes, by its kind. Assumes nothing.
-use Rattle.std.proofs.Common.{◌≡◌, ◌∙◌, ℕ, ◌<◌, ap, arith}
+use Rattle.std.proofs.Common.{◌≡◌, ◌∙◌, ℕ, ◌<◌, ap, refl, arith}
 use borrow.Author.Tests.{ne_eqb}
 use Rattle.base.specs.Pick.{pick}
 use Rattle.encoding.specs.Words.{kind_number, taken_by, nothing}
@@ -18,6 +18,27 @@ amounts_of kind.Close w = record { octets = 0; numbers = 0; packets = w.places; 
 amounts_of kind.TakeMissing w = nothing
 amounts_of kind.TakeDiscontinuity w = nothing
 amounts_of kind.TakeStalled w = nothing
+
+-- the kind of a number
+pub is-arrival : (k : Kind) → kind_number k ≡ 2 → k ≡ kind.Arrival
+is-arrival kind.Begin h = absurd (omega (arith, h))
+is-arrival kind.Pass h = absurd (omega (arith, h))
+is-arrival kind.Arrival h = refl
+is-arrival kind.Take h = absurd (omega (arith, h))
+is-arrival kind.Close h = absurd (omega (arith, h))
+is-arrival kind.TakeMissing h = absurd (omega (arith, h))
+is-arrival kind.TakeDiscontinuity h = absurd (omega (arith, h))
+is-arrival kind.TakeStalled h = absurd (omega (arith, h))
+
+pub is-take : (k : Kind) → kind_number k ≡ 3 → k ≡ kind.Take
+is-take kind.Begin h = absurd (omega (arith, h))
+is-take kind.Pass h = absurd (omega (arith, h))
+is-take kind.Arrival h = absurd (omega (arith, h))
+is-take kind.Take h = refl
+is-take kind.Close h = absurd (omega (arith, h))
+is-take kind.TakeMissing h = absurd (omega (arith, h))
+is-take kind.TakeDiscontinuity h = absurd (omega (arith, h))
+is-take kind.TakeStalled h = absurd (omega (arith, h))
 
 module _ (w : Words) where
   pub by-kind : (k : Kind) → w.kind ≡ kind_number k → amounts_of k w ≡ taken_by w

@@ -22,10 +22,9 @@ use Rattle.encoding.specs.Words.{words_at}
 use Rattle.encoding.specs.Lists.{Lent}
 use Rattle.answers.specs.Code.{answer_in}
 use Rattle.replay.specs.Runs.{Carries}
-use Rattle.tally.specs.Table.{empty}
+use Rattle.tally.specs.Table.{Noted, empty}
 use Rattle.marking.specs.Noting.{note_of, table_of}
 use Rattle.tally.specs.declared.account.Account.{Account}
-use Rattle.tally.specs.declared.account.Noted.{Noted}
 use Rattle.examining.specs.Marks.{Sits, note_run, table_run, Rooms, Marks}
 
 -- ---- opened

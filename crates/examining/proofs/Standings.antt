@@ -26,7 +26,7 @@ use Rattle.replay.specs.Replay.{reply_at, replies_from, replies_in, numbered}
 use Rattle.replay.specs.Chunks.{Runs}
 use Rattle.replay.proofs.Chunks.{runs_append, trace-any, final-any, calls-of, carries-runs}
 use Rattle.tally.specs.Stretches.{noted_all}
-use Rattle.tally.specs.Table.{most_stretches, empty, ending_in, stretches_of}
+use Rattle.tally.specs.Table.{Noted, most_stretches, empty, ending_in, stretches_of}
 use Rattle.marking.specs.Records.{record_of, pairs_of, records_of, pairs_in, stretches_told}
 use Rattle.marking.specs.Key.{Key}
 use Rattle.marking.specs.Noting.{note_of, table_of}
@@ -35,7 +35,6 @@ use Rattle.marking.proofs.Whole.{key}
 use Rattle.tally.specs.declared.record.Record.{Record}
 use Rattle.tally.specs.declared.stretch.Stretch.{Stretch}
 use Rattle.tally.specs.declared.account.Account.{Account}
-use Rattle.tally.specs.declared.account.Noted.{Noted}
 use Rattle.examining.specs.Marks.{note_run, table_run, Marks}
 use Rattle.examining.specs.Stands.{Stands}
 use Rattle.examining.specs.declared.sitting.Sitting.{Sitting}

@@ -11,12 +11,11 @@ use Rattle.encoding.specs.Lists.{Lent}
 use Rattle.answers.specs.Code.{answer_in}
 use Rattle.opening.specs.Refusal.{number_of}
 use Rattle.replay.specs.Runs.{Carries}
-use Rattle.tally.specs.Table.{empty, fitting}
+use Rattle.tally.specs.Table.{Noted, empty, fitting}
 use Rattle.marking.specs.Noting.{note_of, table_of}
 use Rattle.model.specs.declared.session.Session.{Session}
 use Rattle.model.specs.declared.settings.Settings.{Settings}
 use Rattle.tally.specs.declared.account.Account.{Account}
-use Rattle.tally.specs.declared.account.Noted.{Noted}
 use Rattle.tally.specs.declared.rows.End.{End}
 use Rattle.examining.specs.declared.sitting.Sitting.{Sitting}
 use Rattle.examining.specs.declared.sitting.Seated.{Seated}

@@ -16,11 +16,10 @@ use Rattle.encoding.specs.Words.{sender_of, taken_by, call_of}
 use Rattle.encoding.specs.Lists.{part}
 use Rattle.encoding.specs.declared.words.Words.{Words}
 use Rattle.tally.specs.Stretches.{noted_all}
-use Rattle.tally.specs.Table.{most_stretches, stretches_of, fitting}
+use Rattle.tally.specs.Table.{Noted, most_stretches, stretches_of, fitting}
 use Rattle.tally.proofs.Notes.{note-holds, note-handed, note-size}
 use Rattle.tally.specs.declared.record.Record.{Record}
 use Rattle.tally.specs.declared.account.Account.{Account}
-use Rattle.tally.specs.declared.account.Noted.{Noted}
 use Rattle.marking.specs.Records.{heard_as, record_of, pairs_of}
 use Rattle.marking.specs.Noting.{noted_by, table_noted, handed_by, note_of, table_of}
 

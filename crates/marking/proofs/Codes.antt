@@ -12,12 +12,11 @@ use Rattle.model.specs.Answer.{Answer}
 use Rattle.answers.specs.Code.{answer_of}
 use Rattle.answers.proofs.Decodes.{answer-cases}
 use Rattle.encoding.specs.declared.words.Words.{Words}
-use Rattle.tally.specs.Table.{fitting, handing}
+use Rattle.tally.specs.Table.{Noted, fitting, handing}
 use Rattle.tally.specs.declared.record.Event.{Event}
 use Rattle.tally.specs.declared.record.Event.TheVariants.{InOrder, Gap, Stale, Restart}
 use Rattle.tally.specs.declared.record.Record.{Record}
 use Rattle.tally.specs.declared.account.Account.{Account}
-use Rattle.tally.specs.declared.account.Noted.{Noted}
 use Rattle.marking.specs.Records.{heard_as}
 use Rattle.marking.specs.Noting.{said_of, SaidBy, noted_by, table_noted, handed_by, heard_in, note_of, table_of}
 

@@ -4,11 +4,10 @@ use Rattle.base.specs.Pick.{pick}
 use Rattle.model.specs.Answer.{Answer, refused, done, heard, took, slot, flag}
 use Rattle.encoding.specs.Lists.{part}
 use Rattle.encoding.specs.declared.words.Words.{Words}
-use Rattle.tally.specs.Table.{fitting, note_in, table_in, handing}
+use Rattle.tally.specs.Table.{Noted, fitting, note_in, table_in, handing}
 use Rattle.tally.specs.declared.record.Event.{Event}
 use Rattle.tally.specs.declared.record.Record.{Record}
 use Rattle.tally.specs.declared.account.Account.{Account}
-use Rattle.tally.specs.declared.account.Noted.{Noted}
 use Rattle.answers.specs.Code.{answer_of}
 use Rattle.marking.specs.Records.{event_of, number_in, heard_as}
 

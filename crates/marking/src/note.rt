@@ -1,15 +1,15 @@
 // A call and its answer, as numbers in lent buffers, noted in the account.
-ghost use Rattle.std.specs.Prelude.{◌≡◌};
+ghost use Rattle.std.specs.Prelude.{◌≡◌, is_ok};
 ghost use Rattle.encoding.specs.Words.{words_at};
 ghost use Rattle.encoding.specs.Lists.{part};
 ghost use Rattle.answers.specs.Code.{answer_of, answer_in};
-ghost use Rattle.tally.specs.Table.{fitting};
 ghost use Rattle.marking.specs.Records.{number_in, heard_as};
 ghost use Rattle.marking.specs.Noting.{SaidBy, noted_by, table_noted, handed_by, note_of, table_of};
 
 use answers::{CODE, GAP, IN_ORDER, RESTART, STALE, TOOK, VALUE};
-use encoding::words::{ARRIVAL, KIND, OCTETS, READING, TAKE};
-use tally::account::{Account, Noted, TABLE, hand};
+use encoding::kind::Kind;
+use encoding::words::{KIND, OCTETS, READING};
+use tally::account::{Account, Full, TABLE, hand};
 use tally::record::{Event, Record};
 
 // What an answer's code tells of the stream.
@@ -31,30 +31,20 @@ fn said_by(code: u64) -> Option<Event>
     None
 }
 
-// The account as it is.
-fn same(a: Account) -> Noted
-    ensures { result ≡ fitting a }
-{
-    Noted {
-        account: a,
-        fits: true,
-    }
-}
-
 // An arrival, by its answer: one that tells no event adds nothing.
 fn arrived(
     table: &mut [u64; TABLE],
-    a: Account,
+    a: &mut Account,
     reading: u64,
     number: u32,
     code: u64,
     value: u64,
-) -> Noted
-    ensures value { result ≡ noted_by a (heard_as reading number (answer_of code value)) }
-    ensures table_after { table.new ≡ table_noted table.old a (heard_as reading number (answer_of code value)) }
+) -> Result<(), Full>
+    ensures value { record { account = a.new; fits = is_ok result } ≡ noted_by a.old (heard_as reading number (answer_of code value)) }
+    ensures table_after { table.new ≡ table_noted table.old a.old (heard_as reading number (answer_of code value)) }
 {
     match said_by(code) {
-        None => same(a),
+        None => Ok(()),
         Some(event) => {
             let x = Record {
                 reading,
@@ -68,13 +58,12 @@ fn arrived(
 }
 
 // A Take, by its answer.
-fn took(a: Account, code: u64, value: u64) -> Account
-    ensures { result ≡ handed_by a (answer_of code value) }
+fn took(a: &mut Account, code: u64, value: u64)
+    ensures { a.new ≡ handed_by a.old (answer_of code value) }
 {
     if code == TOOK {
-        return hand(a, value);
+        hand(a, value);
     }
-    a
 }
 
 // A datagram's number; 0 of one that is too short to have a number.
@@ -99,28 +88,34 @@ fn number_of(octets: &[u8; 2048], n: u64) -> u32
     number(&all[0..end])
 }
 
-// The account after a call, from its eight numbers, the datagram that it brought (encoding), and its answer's eight numbers
-// (answers). Where it begins a stretch for which there is no room, the account and the table are as they were.
+// A call, noted, from its eight numbers, the datagram that it brought (encoding), and its answer's eight numbers (answers). Where it
+// begins a stretch for which there is no room, the account and the table are as they were.
 pub fn note(
     table: &mut [u64; TABLE],
-    a: Account,
+    a: &mut Account,
     call: &[u64; 8],
     octets: &[u8; 2048],
     answers: &[u64; 8],
-) -> Noted
-    ensures value { result ≡ note_of a (words_at call.now 0) octets.now (answer_in answers.now) }
+) -> Result<(), Full>
+    ensures value { record { account = a.new; fits = is_ok result } ≡
+        note_of a.old (words_at call.now 0) octets.now (answer_in answers.now) }
     ensures table_after { table.new
-        ≡ table_of table.old a (words_at call.now 0) octets.now (answer_in answers.now) }
+        ≡ table_of table.old a.old (words_at call.now 0) octets.now (answer_in answers.now) }
 {
-    let kind = call[KIND];
     let code = answers[CODE];
     let value = answers[VALUE];
-    if kind == ARRIVAL {
-        let number = number_of(octets, call[OCTETS]);
-        return arrived(table, a, call[READING], number, code, value);
+    let Some(kind) = Kind::of(call[KIND]) else {
+        return Ok(());
+    };
+    match kind {
+        Kind::Arrival => {
+            let number = number_of(octets, call[OCTETS]);
+            arrived(table, a, call[READING], number, code, value)
+        }
+        Kind::Take => {
+            took(a, code, value);
+            Ok(())
+        }
+        _ => Ok(()),
     }
-    if kind == TAKE {
-        return same(took(a, code, value));
-    }
-    same(a)
 }

@@ -7,13 +7,12 @@ use Rattle.octets.specs.Written.{written}
 use Rattle.octets.proofs.Writes.{length-written, get_or-written-in, get_or-written-out}
 use Rattle.tally.specs.Stretch.{first_of, more_of}
 use Rattle.tally.specs.Stretches.{after, noted, noted_all}
-use Rattle.tally.specs.Table.{most_stretches, numbers_of, stretch_at, kept, ending_in, stretches_of, holding, fitting, by_event, note_in, table_by, table_in}
+use Rattle.tally.specs.Table.{Noted, most_stretches, numbers_of, stretch_at, kept, ending_in, stretches_of, holding, fitting, by_event, note_in, table_by, table_in}
 use Rattle.tally.specs.declared.record.Event.{Event}
 use Rattle.tally.specs.declared.record.Event.TheVariants.{InOrder, Gap, Stale, Restart}
 use Rattle.tally.specs.declared.record.Record.{Record}
 use Rattle.tally.specs.declared.stretch.Stretch.{Stretch}
 use Rattle.tally.specs.declared.account.Account.{Account}
-use Rattle.tally.specs.declared.account.Noted.{Noted}
 
 -- ---- lists of stretches
 

@@ -1,18 +1,18 @@
 -- The stretches that an account holds: their number, their places, and that what is noted is noted in them. Assumes nothing.
 use Rattle.std.proofs.Common.{◌≡◌, ℕ, zero, suc, ◌+◌, ◌-◌, ◌*◌, ◌<◌, ◌≤◌, false, ◌≢◌, List, [], ◌∷◌, length, get_or, sym, refl, ap, ◌∙◌, arith, length-append, le-ltb, lt-ltb, eq-eqb, ne_eqb}
+use mathlib.Core.Logic.{◌⊎◌, inl, inr}
 use lib.ListN.{get_or-append, get_or-eq_default}
 use lib.Seq.{get_or_at}
 use native.Mathlib.Decide.{ℕ_discrete}
 use Rattle.base.proofs.Picks.{pick-t, pick-f}
 use Rattle.octets.specs.Written.{written}
-use Rattle.tally.specs.Stretch.{first_of}
-use Rattle.tally.specs.Table.{most_stretches, blank, numbers_of, stretch_at, kept, ending_in, holding, fitting, begins, by_event, note_in, table_by, table_in}
+use Rattle.tally.specs.Stretch.{first_of, more_of}
+use Rattle.tally.specs.Table.{Noted, most_stretches, blank, numbers_of, stretch_at, kept, ending_in, holding, fitting, begins, by_event, note_in, table_by, table_in}
 use Rattle.tally.specs.declared.record.Event.{Event}
-use Rattle.tally.specs.declared.record.Event.TheVariants.{Restart}
+use Rattle.tally.specs.declared.record.Event.TheVariants.{InOrder, Gap, Restart}
 use Rattle.tally.specs.declared.record.Record.{Record}
 use Rattle.tally.specs.declared.stretch.Stretch.{Stretch}
 use Rattle.tally.specs.declared.account.Account.{Account}
-use Rattle.tally.specs.declared.account.Noted.{Noted}
 
 -- ---- how many, and which
 
@@ -75,6 +75,12 @@ module _ (t : List ℕ) (a : Account) (x : Record) where
   later-noted v h n r t' e f =
       let z = ne_eqb a.stretches 0 n in
       (e ∙ ap (λ (v : Event). by_event v a x) (sym h) ∙ sym (pick-f _ _ _ z), f ∙ ap (λ (v : Event). table_by v t a) (sym h) ∙ sym (pick-f _ _ _ z))
+
+  -- told in order or a gap: in the last one
+  pub last-noted : x.event ≡ InOrder ⊎ x.event ≡ Gap → a.stretches ≢ 0 → (r : Noted) → r ≡ fitting (holding a a.stretches (more_of a.last x))
+      → (r ≡ note_in a x) × (t ≡ table_in t a x)
+  last-noted (inl h) n r e = later-noted InOrder h n r t e refl
+  last-noted (inr h) n r e = later-noted Gap h n r t e refl
 
   pub full : most_stretches ≤ a.stretches → (record { account = a; fits = false } ≡ begins a x) × (t ≡ table_by Restart t a)
   full h = let z = le-ltb a.stretches most_stretches h in (sym (pick-f _ _ _ z), sym (pick-f _ _ _ z))

@@ -1,5 +1,5 @@
 -- An account as the code keeps it: the stretches but the last in a table, seven numbers each, and the last beside it. Definitions only.
-use Rattle.std.specs.Prelude.{ℕ, zero, suc, ◌+◌, ◌-◌, ◌*◌, true, false, List, [], ◌∷◌, ◌++◌, ◌==◌, nat_lt, slice_index}
+use Rattle.std.specs.Prelude.{ℕ, zero, suc, ◌+◌, ◌-◌, ◌*◌, Bool, true, false, List, [], ◌∷◌, ◌++◌, ◌==◌, nat_lt, slice_index}
 use Rattle.base.specs.Pick.{pick}
 use Rattle.octets.specs.Written.{written}
 use Rattle.tally.specs.Stretch.{sum, first_of, more_of}
@@ -8,7 +8,6 @@ use Rattle.tally.specs.declared.record.Event.TheVariants.{InOrder, Gap, Stale, R
 use Rattle.tally.specs.declared.record.Record.{Record}
 use Rattle.tally.specs.declared.stretch.Stretch.{Stretch}
 use Rattle.tally.specs.declared.account.Account.{Account}
-use Rattle.tally.specs.declared.account.Noted.{Noted}
 
 -- the most stretches of a session
 abbrev pub most_stretches : ℕ
@@ -52,6 +51,11 @@ abbrev pub stretches_of : List ℕ → Account → List Stretch
 stretches_of table a = ending_in table a.stretches a.last
 
 -- ---- what is noted
+
+-- the account after an arrival, or as it was where there is no room for another stretch
+pub record Noted : Type 0 where
+  pub account : Account
+  pub fits : Bool
 
 abbrev pub holding : Account → ℕ → Stretch → Account
 holding a n last = record { stretches = n; last = last; handed = a.handed }

@@ -1,8 +1,8 @@
 // The stretches of a session: all but the last stand in a lent table, seven numbers each, and the last is at hand.
-ghost use Rattle.std.specs.Prelude.{◌≡◌, ◌+◌, ◌*◌, ◌<◌, ◌≤◌, length, slice_index_or};
+ghost use Rattle.std.specs.Prelude.{◌≡◌, ◌+◌, ◌*◌, ◌<◌, ◌≤◌, length, is_ok, slice_index_or};
 ghost use Rattle.octets.specs.Written.{written};
 ghost use Rattle.tally.specs.Table.{empty, blank, numbers_of, stretch_at, stretches_of};
-ghost use Rattle.tally.specs.Table.{holding, fitting, begins, note_in, table_by, table_in, handing};
+ghost use Rattle.tally.specs.Table.{begins, note_in, table_by, table_in, handing};
 ghost use Rattle.tally.specs.declared.record.Event.TheVariants.{Restart};
 
 use super::record::{Event, Record};
@@ -23,12 +23,9 @@ pub struct Account {
     pub(crate) handed: u64,
 }
 
-// The account after an arrival; or there was no room for another stretch, and the account is as it was.
-#[derive(Clone, Copy)]
-pub struct Noted {
-    pub account: Account,
-    pub fits: bool,
-}
+// There was no room for another stretch, and the account is as it was.
+#[derive(Clone, Copy, Debug, PartialEq, Eq)]
+pub struct Full;
 
 fn no_stretch() -> Stretch
     ensures { result ≡ blank }
@@ -109,66 +106,43 @@ pub fn stretch(table: &[u64; TABLE], a: Account, i: usize) -> Stretch
     past(&table[..], i)
 }
 
-fn with_last(a: Account, stretches: usize, last: Stretch) -> Noted
-    ensures { result ≡ fitting (holding a stretches last) }
+fn another(table: &mut [u64; TABLE], a: &mut Account, x: Record) -> Result<(), Full>
+    requires { 0 < a.old.stretches }
+    ensures value { record { account = a.new; fits = is_ok result } ≡ begins a.old x }
+    ensures table_after { table.new ≡ table_by Restart table.old a.old }
 {
-    let handed = a.handed;
-    let account = Account {
-        stretches,
-        last,
-        handed,
-    };
-    Noted {
-        account,
-        fits: true,
+    if a.stretches >= STRETCHES {
+        return Err(Full);
     }
-}
-
-fn another(table: &mut [u64; TABLE], a: Account, x: Record) -> Noted
-    requires { 0 < a.stretches }
-    ensures value { result ≡ begins a x }
-    ensures table_after { table.new ≡ table_by Restart table.old a }
-{
-    let n = a.stretches;
-    let last = a.last;
-    if n >= STRETCHES {
-        return Noted {
-            account: a,
-            fits: false,
-        };
-    }
-    store(&mut table[..], 7 * (n - 1), last);
-    with_last(a, n + 1, first(x))
+    store(&mut table[..], 7 * (a.stretches - 1), a.last);
+    a.stretches += 1;
+    a.last = first(x);
+    Ok(())
 }
 
 // An arrival, noted: in the last stretch, or as the first of another.
-pub fn note(table: &mut [u64; TABLE], a: Account, x: Record) -> Noted
-    ensures value { result ≡ note_in a x }
-    ensures table_after { table.new ≡ table_in table.old a x }
+pub fn note(table: &mut [u64; TABLE], a: &mut Account, x: Record) -> Result<(), Full>
+    ensures value { record { account = a.new; fits = is_ok result } ≡ note_in a.old x }
+    ensures table_after { table.new ≡ table_in table.old a.old x }
 {
-    let n = a.stretches;
-    if n == 0 {
-        return with_last(a, 1, first(x));
+    if a.stretches == 0 {
+        a.stretches = 1;
+        a.last = first(x);
+        return Ok(());
     }
-    let event = x.event;
-    let last = a.last;
-    match event {
-        Event::InOrder => with_last(a, n, more(last, x)),
-        Event::Gap => with_last(a, n, more(last, x)),
-        Event::Stale => with_last(a, n, last),
+    match x.event {
+        Event::InOrder | Event::Gap => {
+            a.last = more(a.last, x);
+            Ok(())
+        }
+        Event::Stale => Ok(()),
         Event::Restart => another(table, a, x),
     }
 }
 
 // So many pairs more were handed out.
-pub fn hand(a: Account, pairs: u64) -> Account
-    ensures { result ≡ handing a pairs }
+pub fn hand(a: &mut Account, pairs: u64)
+    ensures { a.new ≡ handing a.old pairs }
 {
-    let stretches = a.stretches;
-    let last = a.last;
-    Account {
-        stretches,
-        last,
-        handed: a.handed.wrapping_add(pairs),
-    }
+    a.handed = a.handed.wrapping_add(pairs);
 }

@@ -1,19 +1,17 @@
 -- `marking::note::arrived` meets its contract. Assumes nothing.
-use Rattle.std.specs.Prelude.{Option, Some, None}
-use mathlib.Core.Path.{sym, ◌∙◌}
+use mathlib.Core.Path.{refl, sym, ◌∙◌}
 use Rattle.marking.proofs.Codes.{nothing_said, event-said}
 use Rattle.marking.proofs.note.arrived.Goals as goal
 
 pub returns-in-None : goal.returns-in-None
 returns-in-None c =
     let a = c.args in
-    let h = nothing_said a.table.now a.a a.reading a.number a.code a.value (sym c.in-None.is ∙ c.said_by.ensures.says a.value)
-    c.same.result c.same.ensures in
+    let h = nothing_said a.table.now a.a.now a.reading a.number a.code a.value (sym c.in-None.is ∙ c.said_by.ensures.says a.value) _ refl in
     record { value = h.0; table_after = h.1 }
 
 pub returns-in-Some : goal.returns-in-Some
 returns-in-Some c =
     let a = c.args in
-    let h = event-said a.table.now a.a a.reading a.number a.code a.value c.in-Some.event
-    (sym c.in-Some.is ∙ c.said_by.ensures.says a.value) c.note.result c.note.new.table (c.note.ensures.value, c.note.ensures.table_after) in
+    let h = event-said a.table.now a.a.now a.reading a.number a.code a.value c.in-Some.event
+    (sym c.in-Some.is ∙ c.said_by.ensures.says a.value) _ c.note.new.table (c.note.ensures.value, c.note.ensures.table_after) in
     record { value = h.0; table_after = h.1 }
