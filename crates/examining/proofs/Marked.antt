@@ -1,5 +1,5 @@
 -- What `sit` and `mark` return, from what their parts were promised. Assumes nothing.
-use Rattle.std.specs.Prelude.{is_ok, ⊤, Result, Ok}
+use Rattle.std.specs.Prelude.{is_ok, ⊤, Result, Ok, Err}
 use Rattle.encoding.specs.declared.check.ListError.{ListError}
 use Rattle.model.specs.declared.settings.SettingsError.{SettingsError}
 use Prim.Native.Nat.{ℕ}
@@ -25,39 +25,68 @@ use Rattle.replay.specs.Runs.{Carries}
 use Rattle.tally.specs.Table.{Noted, empty}
 use Rattle.marking.specs.Noting.{note_of, table_of}
 use Rattle.tally.specs.declared.account.Account.{Account}
-use Rattle.examining.specs.Marks.{Sits, note_run, table_run, Rooms, Marks}
+use Rattle.tally.specs.declared.account.Full as tally
+use Rattle.base.specs.Pick.{pick}
+use Rattle.model.specs.Open.{opened}
+use Rattle.examining.specs.Marks.{Sits, ran, Notes, note_run, table_run, Rooms, Marks}
+use Rattle.examining.specs.declared.sitting.Unmarked.{Unmarked}
+use Rattle.examining.specs.declared.sitting.Unmarked.TheVariants.{NotRun, Full}
 
 -- ---- opened
 
-pub sits : (s : Settings) (opening : ℕ) (answer : Result ℕ SettingsError) (x : Session) (a : Account) (n : ℕ) → Opens (record { answer = answer; session = x }) s opening → a ≡ empty
-    → n ≡ number_of (settings_answer answer) → Sits (record { sitting = record { session = x; account = a; outcome = Ok tt; fits = true }; refused = n }) s opening
-unfolding accepts
-sits s opening answer x a n o e h =
-    record {
-      session = o.leaves;
-      account = e;
-      outcome = refl;
-      fits = refl;
-      refused = h ∙ ap number_of o.answers;
-      accepted = λ z.
-          let g : is_given (settings_answer answer) ≡ true = sym (none-is-given answer) ∙ ap (λ (k : ℕ). eqb k 0) (sym h) ∙ eq-eqb n 0 z in
-          subst T (sym (ap is_given (sym o.answers) ∙ g)) tt;
-    }
+module _ (s : Settings) (opening : ℕ) (answer : Result ℕ SettingsError) (x : Session) (o : Opens (record { answer = answer; session = x }) s opening) where
+  pub sits : (khz : ℕ) → answer ≡ Ok khz → (a : Account) → a ≡ empty → Sits (Ok (record { session = x; account = a })) s opening
+  unfolding accepts
+  sits khz e a h =
+      record {
+        opens = ap (λ (y : Session). record { session = y; account = a }) o.leaves ∙ ap (λ (b : Account). record { session = opened s opening; account = b }) h;
+        accepted = sym (ap is_given (sym o.answers) ∙ ap (λ (r : Result ℕ SettingsError). is_given (settings_answer r)) e);
+        refused = tt;
+      }
+
+  pub refuses : (e : SettingsError) → answer ≡ Err e → Sits (Err e) s opening
+  unfolding accepts
+  refuses e h =
+      record {
+        opens = tt;
+        accepted = sym (ap is_given (sym o.answers) ∙ ap (λ (r : Result ℕ SettingsError). is_given (settings_answer r)) h);
+        refused = ap (λ (r : Result ℕ SettingsError). number_of (settings_answer r)) (sym h) ∙ ap number_of o.answers;
+      }
 
 -- ---- a call
 
-module _ (outcome : Result ⊤ ListError) (b : Bool) (h : b ≡ is_ok outcome) (x : Session) (st : State) (l : Lent) (a : Account) (answers₀ answers packets : List ℕ) (places : List Float)
-    (st' : State) (t : List ℕ) (c : Carries outcome st l answers₀ answers packets places st') (one : length l.calls ≡ 8) (lent : Rooms l (length answers₀)) where
-  pub not-run : not b ≡ true → Marks (record { session = x; account = a; outcome = outcome; fits = true }) st l a answers₀ answers packets places st' t t
-  unfolding note_run table_run
-  not-run k =
-      let f : is_ok outcome ≡ false = sym h ∙ not-true _ k in
-      record { one = one; lent = lent; carries = c; account = sym (pick-f _ _ _ f); table = sym (pick-f _ _ _ f) }
+module _ (st : State) (l : Lent) (a : Account) (answers₀ answers packets : List ℕ) (places : List Float) (st' : State) (t : List ℕ) (one : length l.calls ≡ 8)
+    (lent : Rooms l (length answers₀)) where
+  carried-as : (r s : Result ⊤ ListError) → r ≡ s → Carries r st l answers₀ answers packets places st' → Carries s st l answers₀ answers packets places st'
+  carried-as r s e c = subst (λ (o : Result ⊤ ListError). Carries o st l answers₀ answers packets places st') e c
 
-  pub run-noted : not b ≡ false → (n : Noted) (t' : List ℕ)
-      → (n ≡ note_of a (words_at l.calls 0) l.octets (answer_in answers)) × (t' ≡ table_of t a (words_at l.calls 0) l.octets (answer_in answers))
-      → Marks (record { session = x; account = n.account; outcome = outcome; fits = n.fits }) st l a answers₀ answers packets places st' t t'
+  pub not-run : (outcome : Result ⊤ ListError) (e : ListError) → outcome ≡ Err e → Carries outcome st l answers₀ answers packets places st'
+      → Marks (Err (NotRun e)) st l a a answers₀ answers packets places st' t t
+  unfolding note_run table_run pick
+  not-run outcome e h c = record { one = one; lent = lent; carries = carried-as outcome (Err e) h c; account = refl; table = refl }
+
+  pub was_run : (outcome : Result ⊤ ListError) {u : ⊤} → outcome ≡ Ok u → (r : Result ⊤ Unmarked) (a' : Account) (t' : List ℕ)
+      → Carries outcome st l answers₀ answers packets places st' → Notes r l.calls l.octets answers a a' t t' → Marks r st l a a' answers₀ answers packets places st' t t'
   unfolding note_run table_run
-  run-noted k n t' e =
-      let f : is_ok outcome ≡ true = sym h ∙ not-false _ k in
-      record { one = one; lent = lent; carries = c; account = e.0 ∙ sym (pick-t _ _ _ f); table = e.1 ∙ sym (pick-t _ _ _ f) }
+  was_run outcome h r a' t' c n =
+      let f = ap is_ok n.run in
+      record {
+        one = one;
+        lent = lent;
+        carries = carried-as outcome (ran r) (h ∙ sym n.run) c;
+        account = n.account ∙ sym (pick-t _ _ _ f);
+        table = n.table ∙ sym (pick-t _ _ _ f);
+      }
+
+-- what `note` answered
+module _ (a a' : Account) (call octets answers t t' : List ℕ) (n : Result ⊤ tally.Full)
+    (v : record { account = a'; fits = is_ok n } ≡ note_of a (words_at call 0) octets (answer_in answers))
+    (f : t' ≡ table_of t a (words_at call 0) octets (answer_in answers)) where
+  fits-so : (b : Bool) → is_ok n ≡ b → record { account = a'; fits = b } ≡ note_of a (words_at call 0) octets (answer_in answers)
+  fits-so b e = ap (λ (y : Bool). record { account = a'; fits = y }) (sym e) ∙ v
+
+  pub note-fits : {u : ⊤} → n ≡ Ok u → Notes (Ok tt) call octets answers a a' t t'
+  note-fits e = record { run = refl; account = fits-so true (ap is_ok e); table = f }
+
+  pub note-full : {e : tally.Full} → n ≡ Err e → Notes (Err Full) call octets answers a a' t t'
+  note-full e = record { run = refl; account = fits-so false (ap is_ok e); table = f }

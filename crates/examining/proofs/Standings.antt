@@ -1,5 +1,5 @@
 -- An account stands when a session is opened, after each call that is run and noted, and is demand 3's. Assumes nothing.
-use Rattle.std.specs.Prelude.{is_ok, Ok}
+use Rattle.std.specs.Prelude.{is_ok, ⊤, Result, Ok}
 use Prim.Native.Nat.{ℕ, ◌+◌, ◌*◌, ◌/◌, ◌%◌, ◌^◌}
 use mathlib.Core.Path.{◌≡◌, refl, sym, ap, subst, ◌∙◌}
 use mathlib.Core.Bool.{true}
@@ -35,9 +35,9 @@ use Rattle.marking.proofs.Whole.{key}
 use Rattle.tally.specs.declared.record.Record.{Record}
 use Rattle.tally.specs.declared.stretch.Stretch.{Stretch}
 use Rattle.tally.specs.declared.account.Account.{Account}
-use Rattle.examining.specs.Marks.{note_run, table_run, Marks}
+use Rattle.examining.specs.Marks.{ran, fits, note_run, table_run, Marks}
 use Rattle.examining.specs.Stands.{Stands}
-use Rattle.examining.specs.declared.sitting.Sitting.{Sitting}
+use Rattle.examining.specs.declared.sitting.Unmarked.{Unmarked}
 
 -- ---- opened
 
@@ -125,15 +125,17 @@ module _ (l : Lent) (size : length l.calls ≡ 8) where
   unfolding replies_from
   one-reply answers packets places = ap (λ (n : ℕ). replies_from l.calls (n / 8) 0 nothing answers packets places) size
 
-pub marked-stands : (r : Sitting) (st : State) (l : Lent) (a : Account) (answers₀ answers packets : List ℕ) (places : List Float) (st' : State) (t t' : List ℕ)
-    → Marks r st l a answers₀ answers packets places st' t t' → r.outcome ≡ Ok tt → r.fits ≡ true → Stands st t a → Stands st' t' r.account
+pub marked-stands : (r : Result ⊤ Unmarked) (st : State) (l : Lent) (a a' : Account) (answers₀ answers packets : List ℕ) (places : List Float) (st' : State) (t t' : List ℕ)
+    → Marks r st l a a' answers₀ answers packets places st' t t' → r ≡ Ok tt → Stands st t a → Stands st' t' a'
 unfolding note_run table_run
-marked-stands r st l a answers₀ answers packets places st' t t' m ran fits x =
+marked-stands r st l a a' answers₀ answers packets places st' t t' m noted x =
+    let was-run : ran r ≡ Ok tt = ap ran noted in
+    let has_room : fits r ≡ true = ap fits noted in
     let w = words_at l.calls 0 in
     let ans = answer_in answers in
-    let e : record { account = r.account; fits = r.fits } ≡ note_of a w l.octets ans = m.account ∙ pick-t _ _ _ (ap is_ok ran) in
-    let f : t' ≡ table_of t a w l.octets ans = m.table ∙ pick-t _ _ _ (ap is_ok ran) in
-    let runs = carries-runs r.outcome st l answers₀ answers packets places st' m.carries ran in
+    let e : record { account = a'; fits = fits r } ≡ note_of a w l.octets ans = m.account ∙ pick-t _ _ _ (ap is_ok was-run) in
+    let f : t' ≡ table_of t a w l.octets ans = m.table ∙ pick-t _ _ _ (ap is_ok was-run) in
+    let runs = carries-runs (ran r) st l answers₀ answers packets places st' m.carries was-run in
     let c = call_at l 0 nothing in
     let y = reply_at l.calls 0 nothing answers packets places in
     let one : Runs st (c ∷ []) (y ∷ []) st' =
@@ -141,10 +143,10 @@ marked-stands r st l a answers₀ answers packets places st' t t' m ran fits x =
     (subst (λ (rs : List Reply). Runs st (decoded l) rs st') (one-reply l m.one answers packets places) runs) in
     let told : y.answer ≡ ans = cc (ap (λ (v : ℕ). answer_of v (get_or (part 0 8 answers) 1 0)) (get_or-take 8 answers 0 0 (omega arith)), ap (λ (v : ℕ). answer_of (get_or answers 0 0) v) (get_or-take 8 answers 1 0 (omega arith))) in
     let n = note-after t x.places a w l.octets (part 0 (taken_by w).numbers l.numbers) (part 0 (taken_by w).packets l.packets) (part 0 (taken_by w).places l.places) ans (pairs_in x.calls x.replies) in
-    stands_on st t a x c y st' one t' r.account (ap length f ∙ table-size t a w l.octets ans x.places ∙ x.places)
-    (ap (λ (u : List ℕ). stretches_of u r.account) f
+    stands_on st t a x c y st' one t' a' (ap length f ∙ table-size t a w l.octets ans x.places ∙ x.places)
+    (ap (λ (u : List ℕ). stretches_of u a') f
     ∙ ap (λ (b : Noted). stretches_of (table_of t a w l.octets ans) b.account) e
-    ∙ n.stretches (sym (ap (λ (b : Noted). b.fits) e) ∙ fits)
+    ∙ n.stretches (sym (ap (λ (b : Noted). b.fits) e) ∙ has_room)
     ∙ ap (λ (z : Answer). noted_all (stretches_of t a) (record_of c z)) (sym told))
     (ap (λ (b : Noted). b.account.handed) e ∙ n.handed x.handed ∙ ap (λ (z : Answer). (pairs_in x.calls x.replies + pairs_of c z) % 2 ^ 64) (sym told))
 

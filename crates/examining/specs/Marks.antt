@@ -1,8 +1,8 @@
 -- A session and its account, opened, after a call, and where the account is told. Definitions only.
-use Rattle.std.specs.Prelude.{is_ok, ⊤, ℕ, ◌≡◌, true, List, length, Float, T, Result, Ok}
+use Rattle.std.specs.Prelude.{is_ok, ⊤, ℕ, ◌≡◌, Bool, true, false, List, length, Float, Result, Ok, Err, IfOk, IfErr}
 use Rattle.encoding.specs.declared.check.ListError.{ListError}
 use Rattle.base.specs.Pick.{pick}
-use Rattle.model.specs.Settings.{settings_told, accepts}
+use Rattle.model.specs.Settings.{settings_told, settings_number, accepts}
 use Rattle.model.specs.Open.{opened}
 use Rattle.model.specs.State.{State, left}
 use Rattle.health.specs.Counters.{loss_total}
@@ -18,16 +18,26 @@ use Rattle.model.specs.declared.settings.Settings.{Settings}
 use Rattle.tally.specs.declared.account.Account.{Account}
 use Rattle.tally.specs.declared.rows.End.{End}
 use Rattle.examining.specs.declared.sitting.Sitting.{Sitting}
-use Rattle.examining.specs.declared.sitting.Seated.{Seated}
+use Rattle.examining.specs.declared.sitting.Unmarked.{Unmarked}
+use Rattle.examining.specs.declared.sitting.Unmarked.TheVariants.{NotRun, Full}
+use Rattle.model.specs.declared.settings.SettingsError.{SettingsError}
 
-pub record Sits (r : Seated) (s : Settings) (opening : ℕ) : Type 0 where
-  pub session : r.sitting.session ≡ opened s opening
-  pub account : r.sitting.account ≡ empty
-  pub outcome : r.sitting.outcome ≡ Ok tt
-  pub fits : r.sitting.fits ≡ true
-  -- by the settings' row, or 0 where they are accepted
-  pub refused : r.refused ≡ number_of (settings_told s)
-  pub accepted : r.refused ≡ 0 → T (accepts s)
+-- a session just opened, and nothing noted; or the row of the settings that applies
+pub record Sits (r : Result Sitting SettingsError) (s : Settings) (opening : ℕ) : Type 0 where
+  pub opens : IfOk r (λ x. x ≡ record { session = opened s opening; account = empty })
+  pub accepted : is_ok r ≡ accepts s
+  pub refused : IfErr r (λ e. settings_number e ≡ number_of (settings_told s))
+
+-- what became of a call: whether it was run, and noted
+abbrev pub ran : Result ⊤ Unmarked → Result ⊤ ListError
+ran (Ok u) = Ok tt
+ran (Err Full) = Ok tt
+ran (Err (NotRun e)) = Err e
+
+abbrev pub fits : Result ⊤ Unmarked → Bool
+fits (Ok u) = true
+fits (Err Full) = false
+fits (Err (NotRun e)) = true
 
 -- what is noted of a call that was run, from its numbers and its answer's; of one that was not, nothing
 unfoldable pub note_run : Result ⊤ ListError → Account → Lent → List ℕ → Noted
@@ -44,14 +54,20 @@ pub record Rooms (l : Lent) (answers : ℕ) : Type 0 where
   pub answer : answers ≡ 8
 
 -- the session, the answer and the lent buffers after a call are those of the run of the list that it is (replay, Runs)
-pub record Marks (r : Sitting) (st : State) (l : Lent) (a : Account) (answers₀ answers packets : List ℕ) (places : List Float) (st' : State) (t t' : List ℕ)
-    : Type 0 where
+-- of a call that was run, by its numbers, its datagram and its answer's numbers
+pub record Notes (r : Result ⊤ Unmarked) (call octets answers : List ℕ) (a a' : Account) (t t' : List ℕ) : Type 0 where
+  pub run : ran r ≡ Ok tt
+  pub account : record { account = a'; fits = fits r } ≡ note_of a (words_at call 0) octets (answer_in answers)
+  pub table : t' ≡ table_of t a (words_at call 0) octets (answer_in answers)
+
+pub record Marks (r : Result ⊤ Unmarked) (st : State) (l : Lent) (a a' : Account) (answers₀ answers packets : List ℕ) (places : List Float) (st' : State)
+    (t t' : List ℕ) : Type 0 where
   -- one call, and the rooms that are lent for it
   pub one : length l.calls ≡ 8
   pub lent : Rooms l (length answers₀)
-  pub carries : Carries r.outcome st l answers₀ answers packets places st'
-  pub account : record { account = r.account; fits = r.fits } ≡ note_run r.outcome a l answers
-  pub table : t' ≡ table_run r.outcome t a l answers
+  pub carries : Carries (ran r) st l answers₀ answers packets places st'
+  pub account : record { account = a'; fits = fits r } ≡ note_run (ran r) a l answers
+  pub table : t' ≡ table_run (ran r) t a l answers
 
 -- what is told of the session with its account: the pairs that wait, its counters, its loss total
 abbrev pub end_of : Session → End

@@ -2,14 +2,14 @@
 ghost use Rattle.std.specs.Prelude.{◌≡◌};
 ghost use Rattle.model.specs.Gives.{joined};
 ghost use Rattle.encoding.specs.Lists.{lent_by};
-ghost use Rattle.examining.specs.Marks.{Sits, Marks, end_of};
+ghost use Rattle.examining.specs.Marks.{Sits, Notes, Marks, end_of};
 
 use encoding::check::ListError;
+use encoding::lent::{Asked, Calls, Given};
 use marking::note::note;
 use model::session::Session;
-use model::settings::Settings;
+use model::settings::{Settings, SettingsError};
 use opening::open::open;
-use opening::settings::refusal;
 use replay::run::carry_on;
 use session::readers::{gap_stats, loss_total, waiting_samples};
 use stream::F32_PER_DATAGRAM;
@@ -20,98 +20,91 @@ use tally::rows::End;
 pub struct Sitting {
     pub session: Session,
     pub account: Account,
-    // what became of the last call: whether it was run, and noted
-    pub outcome: Result<(), ListError>,
-    pub fits: bool,
 }
 
-// What Open gives with these settings and this reading, and an account in which nothing is noted. The number is 01's of the refusal,
-// or 0.
+// Why a call is not noted in the account.
 #[derive(Clone, Copy)]
-pub struct Seated {
-    pub sitting: Sitting,
-    pub refused: u64,
+pub enum Unmarked {
+    // it was not run, and nothing has changed
+    NotRun(ListError),
+    // it was run, and began a stretch for which the table has no room
+    Full,
 }
 
-pub fn sit(settings: Settings, opening: u64) -> Seated
+// What Open gives with these settings and this reading, and an account in which nothing is noted; or the row of the settings that
+// applies.
+pub fn sit(settings: Settings, opening: u64) -> Result<Sitting, SettingsError>
     ensures { Sits result settings opening }
 {
     let opened = open(settings, opening);
-    let answer = opened.answer;
-    let session = opened.session;
-    let account = none();
-    let sitting = Sitting {
-        session,
-        account,
-        outcome: Ok(()),
-        fits: true,
-    };
-    Seated {
-        sitting,
-        refused: refusal(answer),
+    match opened.answer {
+        Ok(_) => Ok(Sitting {
+            session: opened.session,
+            account: none(),
+        }),
+        Err(e) => Err(e),
     }
 }
 
-// One call, run and noted. What is lent for it is as for `carry_on`; its answer goes to the account in the lent table. A call that
-// can't be run changes nothing. One that begins a stretch for which the table has no room is run, but not noted: fits is false.
-pub fn mark(
-    s: Session,
-    a: Account,
-    samples: &mut [f32; F32_PER_DATAGRAM],
-    call: &[u64; 8],
-    octets: &[u8; 2048],
-    numbers: &[u32; 8193],
-    packets: &mut [u8; 8192],
-    places: &mut [f32; 1024],
-    answers: &mut [u64; 8],
+// What a call that was run was answered, noted.
+fn noted(
+    a: &mut Account,
+    asked: &Asked,
+    given: &Given,
     table: &mut [u64; TABLE],
-) -> Sitting
-    ensures { Marks result (joined s samples.old)
-        (lent_by call.now octets.now numbers.now packets.old
-        places.old)
-        a answers.old answers.new packets.new places.new
-        (joined result.session samples.new) table.old table.new }
+) -> Result<(), Unmarked>
+    ensures { Notes result asked.now.call asked.now.octets given.now.answers a.old a.new table.old table.new }
 {
-    let r = carry_on(s, samples, call, octets, numbers, packets, places, answers);
-    let outcome = r.outcome;
-    let session = r.session;
-    if !outcome.is_ok() {
-        return Sitting {
-            session,
-            account: a,
-            outcome,
-            fits: true,
-        };
-    }
-    let noted = note(table, a, call, octets, answers);
-    let account = noted.account;
-    let fits = noted.fits;
-    Sitting {
-        session,
-        account,
-        outcome,
-        fits,
+    match note(table, a, &asked.call, &asked.octets, &given.answers) {
+        Ok(()) => Ok(()),
+        Err(_) => Err(Unmarked::Full),
     }
 }
 
-fn wide(n: usize) -> u64
-    ensures { result ≡ n }
+// One call, run and noted: what it is and brings, and what it is lent, as one of a list (`replay::run::carry_on`). Its answer goes to the
+// account in the lent table.
+pub fn mark(
+    s: &mut Sitting,
+    samples: &mut [f32; F32_PER_DATAGRAM],
+    asked: &Asked,
+    given: &mut Given,
+    table: &mut [u64; TABLE],
+) -> Result<(), Unmarked>
+    ensures { Marks result (joined s.old.session samples.old)
+        (lent_by asked.now.call asked.now.octets asked.now.numbers given.old.packets
+        given.old.places)
+        s.old.account s.new.account given.old.answers given.new.answers given.new.packets given.new.places
+        (joined s.new.session samples.new) table.old table.new }
 {
-    n as u64
+    let list = Calls {
+        words: &asked.call,
+        octets: &asked.octets,
+        numbers: &asked.numbers,
+    };
+    let outcome = carry_on(
+        &mut s.session,
+        samples,
+        list,
+        &mut given.packets,
+        &mut given.places,
+        &mut given.answers,
+    );
+    match outcome {
+        Err(e) => Err(Unmarked::NotRun(e)),
+        Ok(()) => noted(&mut s.account, asked, given, table),
+    }
 }
 
 // What is told of a session with its account.
-pub fn end_of(s: Session) -> End
-    ensures { result ≡ end_of s }
+pub fn end_of(s: &Session) -> End
+    ensures { result ≡ end_of s.now }
 {
     let health = gap_stats(s);
-    let waiting = wide(waiting_samples(s));
-    let loss = loss_total(s);
     End {
-        waiting,
+        waiting: waiting_samples(s) as u64,
         dropped: health.dropped_packets,
         gaps: health.gaps_detected,
         malformed: health.malformed_packets,
-        loss,
+        loss: loss_total(s),
     }
 }

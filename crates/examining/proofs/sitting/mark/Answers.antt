@@ -1,12 +1,22 @@
 -- `examining::sitting::mark` meets its contract. Assumes nothing.
-use Rattle.std.specs.Prelude.{is_ok}
-use Rattle.std.proofs.Common.{ap, rules}
-use mathlib.Core.Bool.{not}
-use Rattle.examining.proofs.Marked.{not-run, run-noted}
+use Rattle.std.proofs.Common.{rules}
+use Rattle.model.specs.Gives.{joined}
+use Rattle.encoding.specs.Lists.{lent_by}
+use Rattle.examining.proofs.Marked.{not-run, was_run}
 use Rattle.examining.proofs.sitting.mark.Goals as goal
 
-pub returns-then-not-is_ok : goal.returns-then-not-is_ok
-returns-then-not-is_ok c = not-run _ _ c.is_ok.ensures.value _ _ _ _ _ _ _ _ _ _ c.carry_on-r.ensures (search rules) (record { octets = search rules; numbers = search rules; packets = search rules; places = search rules; answer = search rules }) (ap not c.if-not-is_ok.true)
+pub returns-in-Err : goal.returns-in-Err
+returns-in-Err c =
+    let a = c.args in
+    let l = lent_by a.asked.now.call a.asked.now.octets a.asked.now.numbers a.given.now.packets a.given.now.places in
+    not-run (joined a.s.now.session a.samples.now) l a.s.now.account a.given.now.answers _ _ _ _ a.table.now (search rules)
+    (record { octets = search rules; numbers = search rules; packets = search rules; places = search rules; answer = search rules })
+    _ _ c.in-Err.is c.carry_on-outcome.ensures
 
-pub returns : goal.returns
-returns c = run-noted _ _ c.is_ok.ensures.value _ _ _ _ _ _ _ _ _ _ c.carry_on-r.ensures (search rules) (record { octets = search rules; numbers = search rules; packets = search rules; places = search rules; answer = search rules }) (ap not c.if-not-is_ok.false) _ _ (c.note-noted.ensures.value, c.note-noted.ensures.table_after)
+pub returns-in-Ok : goal.returns-in-Ok
+returns-in-Ok c =
+    let a = c.args in
+    let l = lent_by a.asked.now.call a.asked.now.octets a.asked.now.numbers a.given.now.packets a.given.now.places in
+    was_run (joined a.s.now.session a.samples.now) l a.s.now.account a.given.now.answers _ _ _ _ a.table.now (search rules)
+    (record { octets = search rules; numbers = search rules; packets = search rules; places = search rules; answer = search rules })
+    _ c.in-Ok.is _ _ _ c.carry_on-outcome.ensures c.noted.ensures

@@ -1,6 +1,9 @@
 -- `examining::sitting::sit` meets its contract. Assumes nothing.
-use Rattle.examining.proofs.Marked.{sits}
+use Rattle.examining.proofs.Marked.{sits, refuses}
 use Rattle.examining.proofs.sitting.sit.Goals as goal
 
-pub returns : goal.returns
-returns c = sits _ _ _ _ _ _ c.open-opened.ensures c.none-account.ensures c.refusal.ensures
+pub returns-in-Ok : goal.returns-in-Ok
+returns-in-Ok c = sits c.args.settings c.args.opening _ _ c.open-opened.ensures _ c.in-Ok.is _ c.none.ensures
+
+pub returns-in-Err : goal.returns-in-Err
+returns-in-Err c = refuses c.args.settings c.args.opening _ _ c.open-opened.ensures _ c.in-Err.is
