@@ -1,28 +1,30 @@
 -- The session that a program holds, and its account. Definitions only.
-use Rattle.std.specs.Prelude.{is_ok, ℕ, ◌≡◌, true, ◌&&◌, List, eqb, Float}
+use Rattle.std.specs.Prelude.{⊤, ℕ, ◌≡◌, List, Float, Option, Result, Ok, IfSome}
+use Rattle.model.specs.declared.settings.SettingsError.{SettingsError}
 use Rattle.model.specs.Gives.{joined}
+use Rattle.lines.specs.Call.{Fit}
 use Rattle.lines.specs.Open.{opening_of}
 use Rattle.encoding.specs.Lists.{Lent}
-use Rattle.examining.specs.Marks.{Sits, Marks}
+use Rattle.examining.specs.Marks.{Sits, ran, Marks}
 use Rattle.examining.specs.Stands.{Stands, Standing}
-use Rattle.holding.specs.declared.Held.{Held}
+use Rattle.examining.specs.declared.sitting.Sitting.{Sitting}
+use Rattle.examining.specs.declared.sitting.Unmarked.{Unmarked}
 
--- opened by the settings and the reading of this line: the account stands where they are accepted
-pub record Opens (h : Held) (line : List ℕ) : Type 0 where
-  pub sits : Sits (record { sitting = h.sitting; refused = h.refused }) (opening_of line).settings (opening_of line).at
-  pub stands : h.stands ≡ eqb h.refused 0
+-- opened by the settings and the reading of this line
+pub record Opens (r : Result Sitting SettingsError) (line : List ℕ) : Type 0 where
+  pub sits : Sits r (opening_of line).settings (opening_of line).at
 
--- after a call: run and noted, and the account stands where it did, the call was run, and it was noted
-pub record Goes (h r : Held) (samples : List Float) (l : Lent) (answers₀ answers packets : List ℕ) (places samples' : List Float) (t t' : List ℕ) : Type 0 where
-  pub marks :
-      Marks r.sitting (joined h.sitting.session samples) l h.sitting.account answers₀ answers packets places (joined r.sitting.session samples') t t'
-  pub stands : r.stands ≡ h.stands && is_ok r.sitting.outcome && r.sitting.fits
-  pub refused : r.refused ≡ 0
+-- after a call: run and noted; what a line was read as is run, and where it was noted the account stands as it did
+pub record Goes (r : Result ⊤ Unmarked) (s s' : Sitting) (samples : List Float) (l : Lent) (answers₀ answers packets : List ℕ) (places samples' : List Float) (t t' : List ℕ)
+    : Type 0 where
+  pub marks : Marks r (joined s.session samples) l s.account s'.account answers₀ answers packets places (joined s'.session samples') t t'
+  pub run : Fit l.calls → ran r ≡ Ok tt
+  pub stands : r ≡ Ok tt → Stands (joined s.session samples) t s.account → Stands (joined s'.session samples') t' s'.account
 
--- where it says that the account stands, it does
-pub record Holds (h : Held) (samples : List Float) (table : List ℕ) : Type 0 where
-  pub account : h.stands ≡ true → Stands (joined h.sitting.session samples) table h.sitting.account
+-- where there is a session its account stands
+pub record Holds (h : Option Sitting) (samples : List Float) (table : List ℕ) : Type 0 where
+  pub account : IfSome h (λ s. Stands (joined s.session samples) table s.account)
 
 -- the same, whatever is lent beside the session
-pub record Kept (h : Held) (table : List ℕ) : Type 0 where
-  pub account : h.stands ≡ true → Standing h.sitting.session table h.sitting.account
+pub record Kept (h : Option Sitting) (table : List ℕ) : Type 0 where
+  pub account : IfSome h (λ s. Standing s.session table s.account)
