@@ -9,6 +9,7 @@ use lib.Ieee.{Float}
 use Rattle.model.specs.declared.settings.SettingsError.{SettingsError}
 use Rattle.model.specs.Gives.{joined}
 use Rattle.model.specs.declared.settings.Settings.{Settings}
+use Rattle.lines.specs.Call.{Fit}
 use Rattle.encoding.specs.Lists.{Lent}
 use Rattle.tally.specs.Table.{most_stretches}
 use Rattle.examining.specs.Marks.{Sits, ran, Marks}
@@ -48,3 +49,15 @@ holds-none samples t = record { account = tt }
 pub kept : (h : Option Sitting) (samples : List Float) (table : List ℕ) → Holds h samples table → Kept h table
 kept None samples table x = record { account = tt }
 kept (Some s) samples table x = record { account = (samples, x.account) }
+
+-- ---- called, as its promise has it
+
+module _ (r : Result ⊤ Unmarked) (s s' : Sitting) (samples : List Float) (l : Lent) (answers₀ answers packets : List ℕ) (places samples' : List Float) (t t' : List ℕ)
+    (g : Goes r s s' samples l answers₀ answers packets places samples' t t') where
+  -- what a line was read as is always run
+  pub goes-ran : Fit l.calls → ran r ≡ Ok tt
+  goes-ran = g.run
+
+  -- where it is noted the account stands as it did; else the session is held no more
+  pub goes-holds : Holds (Some s) samples t → r ≡ Ok tt → Holds (Some s') samples' t'
+  goes-holds x e = record { account = g.stands e x.account }
