@@ -69,6 +69,7 @@ fn store(table: &mut [u64], at: usize, s: Stretch)
     table[at + 6] = s.missing;
 }
 
+#[tactic(auto, unfolding(crate::specs::Table::stretch_at))]
 fn stored(table: &[u64; TABLE], i: usize) -> Stretch
     requires { i < 4096 }
     ensures { result ≡ stretch_at table.now i }
@@ -86,6 +87,7 @@ fn stored(table: &[u64; TABLE], i: usize) -> Stretch
 }
 
 // What a table holds past its end.
+#[tactic(auto, unfolding(crate::specs::Table::stretch_at))]
 fn past(table: &[u64], i: usize) -> Stretch
     requires { length table.now ≤ 7 * i }
     ensures { result ≡ stretch_at table.now i }
@@ -94,6 +96,7 @@ fn past(table: &[u64], i: usize) -> Stretch
 }
 
 // The i-th stretch, from 0; one of zeros past the last.
+#[tactic(auto, using(crate::proofs::Tables::past_them, crate::proofs::Tables::last_at, crate::proofs::Tables::stored_at))]
 pub fn stretch(table: &[u64; TABLE], a: Account, i: usize) -> Stretch
     ensures { result ≡ slice_index_or (stretches_of table.now a) i blank }
 {
@@ -124,6 +127,7 @@ fn with_last(a: Account, stretches: usize, last: Stretch) -> Noted
     }
 }
 
+#[tactic(auto, unfolding(base::specs::Pick::pick))]
 fn another(table: &mut [u64; TABLE], a: Account, x: Record) -> Noted
     requires { 0 < a.stretches }
     ensures value { result ≡ begins a x }
@@ -142,6 +146,7 @@ fn another(table: &mut [u64; TABLE], a: Account, x: Record) -> Noted
 }
 
 // An arrival, noted: in the last stretch, or as the first of another.
+#[tactic(auto, unfolding(base::specs::Pick::pick, crate::specs::Table::note_in, crate::specs::Table::table_in))]
 pub fn note(table: &mut [u64; TABLE], a: Account, x: Record) -> Noted
     ensures value { result ≡ note_in a x }
     ensures table_after { table.new ≡ table_in table.old a x }
