@@ -8,14 +8,14 @@ use lib.Ieee.Scale.{finite}
 use Rattle.double.specs.Parts.{PartsOf}
 
 -- std's test, by what its method answers
-pub finite-is : (x : Float) → float_is_finite x ≡ finite x
+pub finite_is : (x : Float) → float_is_finite x ≡ finite x
 unfolding float_is_finite
-finite-is nan = refl
-finite-is (inf s) = refl
-finite-is (fin s m e) = refl
+finite_is nan = refl
+finite_is (inf s) = refl
+finite_is (fin s m e) = refl
 
 pub tested : (x : Float) {r b : Bool} → r ≡ float_is_finite x → r ≡ b → finite x ≡ b
-tested x v h = sym (v ∙ finite-is x) ∙ h
+tested x v h = sym (v ∙ finite_is x) ∙ h
 
 pub finite-no-nan : (x : Float) → T (finite x) → T (not (is_nan x))
 unfolding is_nan

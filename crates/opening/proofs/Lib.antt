@@ -1,4 +1,3 @@
 -- The laws behind Open: a file imports only what stands above it here.
-pub mod Centres
 pub mod Openings
 pub mod Refusals

@@ -19,6 +19,7 @@ use tuning::board::board_info;
 use tuning::phase::phase_word;
 
 // What the packets carry: the rate is this many kHz, as the settings' check has it.
+#[tactic(auto, unfolding(model::specs::Open::tuned))]
 fn tuned(s: Settings, khz: u16) -> Tuning
     ensures { result ≡ Open.tuned khz s }
 {
@@ -45,6 +46,7 @@ fn attenuates(s: Settings) -> bool
     }
 }
 
+#[tactic(auto, unfolding(base::specs::Pick::pick, model::specs::Open::attenuation_at))]
 fn attenuation_at(on: bool, now: u64) -> Option<Controller>
     ensures { result ≡ Open.attenuation_at on now }
 {
@@ -56,6 +58,7 @@ fn attenuation_at(on: bool, now: u64) -> Option<Controller>
     None
 }
 
+#[tactic(auto, unfolding(model::specs::Open::new_common))]
 fn new_common(s: Settings, khz: u16, now: u64) -> Common
     ensures { result ≡ Open.new_common khz s now }
 {
@@ -80,6 +83,7 @@ fn new_common(s: Settings, khz: u16, now: u64) -> Common
     }
 }
 
+#[tactic(auto, unfolding(model::specs::Open::new_receiver))]
 fn new_receiver(now: u64) -> Receiver
     ensures { result ≡ Open.new_receiver now }
 {
@@ -106,6 +110,7 @@ fn new_receiver(now: u64) -> Receiver
     }
 }
 
+#[tactic(auto, unfolding(model::specs::Open::new_session))]
 fn new_session(s: Settings, khz: u16, now: u64) -> Session
     ensures { result ≡ Open.new_session khz s now }
 {
@@ -135,6 +140,7 @@ fn no_settings() -> Settings
 }
 
 // The session beside a refusal, whatever was refused.
+#[tactic(auto, unfolding(model::specs::Open::unopened, model::specs::Open::new_session))]
 fn unopened() -> Session
     ensures { result ≡ Open.unopened }
 {

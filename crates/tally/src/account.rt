@@ -66,6 +66,7 @@ fn store(table: &mut [u64], at: usize, s: Stretch)
     table[at + 6] = s.missing;
 }
 
+#[tactic(auto, unfolding(crate::specs::Table::stretch_at))]
 fn stored(table: &[u64; TABLE], i: usize) -> Stretch
     requires { i < 4096 }
     ensures { result ≡ stretch_at table.now i }
@@ -83,6 +84,7 @@ fn stored(table: &[u64; TABLE], i: usize) -> Stretch
 }
 
 // What a table holds past its end.
+#[tactic(auto, unfolding(crate::specs::Table::stretch_at))]
 fn past(table: &[u64], i: usize) -> Stretch
     requires { length table.now ≤ 7 * i }
     ensures { result ≡ stretch_at table.now i }
@@ -91,6 +93,7 @@ fn past(table: &[u64], i: usize) -> Stretch
 }
 
 // The i-th stretch, from 0; one of zeros past the last.
+#[tactic(auto, using(crate::proofs::Tables::past_them, crate::proofs::Tables::last_at, crate::proofs::Tables::stored_at))]
 pub fn stretch(table: &[u64; TABLE], a: Account, i: usize) -> Stretch
     ensures { result ≡ slice_index_or (stretches_of table.now a) i blank }
 {
@@ -106,6 +109,7 @@ pub fn stretch(table: &[u64; TABLE], a: Account, i: usize) -> Stretch
     past(&table[..], i)
 }
 
+#[tactic(auto, unfolding(base::specs::Pick::pick))]
 fn another(table: &mut [u64; TABLE], a: &mut Account, x: Record) -> Result<(), Full>
     requires { 0 < a.old.stretches }
     ensures value { record { account = a.new; fits = is_ok result } ≡ begins a.old x }
@@ -121,6 +125,7 @@ fn another(table: &mut [u64; TABLE], a: &mut Account, x: Record) -> Result<(), F
 }
 
 // An arrival, noted: in the last stretch, or as the first of another.
+#[tactic(auto, unfolding(base::specs::Pick::pick, crate::specs::Table::note_in, crate::specs::Table::table_in))]
 pub fn note(table: &mut [u64; TABLE], a: &mut Account, x: Record) -> Result<(), Full>
     ensures value { record { account = a.new; fits = is_ok result } ≡ note_in a.old x }
     ensures table_after { table.new ≡ table_in table.old a.old x }

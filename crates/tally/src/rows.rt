@@ -77,6 +77,7 @@ fn sums(table: &[u64; TABLE], a: Account) -> Sums
 }
 
 // The k-th row, from 0: as many stretches as there are, the sums, the counters.
+#[tactic(auto, using(crate::proofs::Tables::length_stretches), unfolding(base::specs::Pick::pick, crate::specs::Rows::row_at))]
 pub fn nth_row(table: &[u64; TABLE], a: Account, e: End, k: usize) -> Row
     ensures { result ≡ row_at (stretches_of table.now a) a.handed e k }
 {

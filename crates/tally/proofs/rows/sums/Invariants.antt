@@ -1,5 +1,5 @@
 -- `tally::rows::sums` meets its contract. Assumes nothing.
-use Rattle.std.proofs.Common.{◌≡◌, ◌-◌, ◌≤◌, drop}
+use Rattle.std.proofs.Common.{◌≡◌, drop}
 use Rattle.tally.specs.Stretches.{sums_from, sums_of}
 use Rattle.tally.specs.Table.{stretches_of}
 use Rattle.tally.proofs.rows.sums.Given as goal
