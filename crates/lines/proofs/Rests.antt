@@ -3,22 +3,22 @@ use mathlib.Core.Path.{◌≡◌, refl, sym, ap, ◌∙◌}
 use mathlib.Core.List.{List, [], ◌∷◌}
 use Prim.Native.Nat.{ℕ, ◌≤◌, ◌<◌}
 use native.Mathlib.Omega.{arith}
-use borrow.Author.Tests.{le-leb, lt-leb, eq-eqb, ne_eqb}
 use lib.ListN.{length, drop, get_or, length-take}
 use Rattle.base.proofs.Picks.{pick-t, pick-f}
 use Rattle.text.specs.Run.{run, other}
-use Rattle.text.specs.Name.{place}
 use Rattle.text.specs.Split.{words, before, part, WordAt}
 use Rattle.text.proofs.Splits.{no_word, one_word, part-front}
 use Rattle.lines.specs.Key.{buffer_key, settings, key_count, unread_words, unsaid}
-use Rattle.lines.specs.Name.{names, open_name, name_count, ends, text_of}
+use Rattle.lines.specs.declared.name.Name.{Name}
+use Rattle.lines.specs.declared.name.Name.TheVariants.{Open}
+use Rattle.lines.specs.Name.{name_of, is, form, text_of}
 use mathlib.Core.Bool.{true, false}
 use Rattle.std.specs.Prelude.{is_some, Option, Some, None}
 use Rattle.lines.specs.declared.argument.Kind.{Kind}
-use Rattle.lines.specs.Argument.{form, unread, if_read, arguments_rest, Arguments}
+use Rattle.lines.specs.Argument.{unread, if_read, arguments_rest, Arguments}
 use Rattle.lines.specs.Option.{options_rest, Stopped}
 use Rattle.lines.specs.Call.{options_of}
-use Rattle.lines.specs.Found.{rest_named, rest_words, found_in, first_in, Stands}
+use Rattle.lines.specs.Found.{rest_named, rest_as, rest_words, found_in, first_in, Stands}
 
 -- ---- whether every word of a form was read
 
@@ -32,25 +32,25 @@ none-unread (Some t) e = cc
 
 -- ---- among the words after a name
 
-module _ (name : ℕ) (s : List ℕ) (ws : List (List ℕ)) where
-  pub at-setting : name ≡ open_name → (at : ℕ) → Stopped settings key_count s unsaid ws at → (at ≤ length s) × (words (drop at s) ≡ rest_named name ws)
+module _ (name : Name) (s : List ℕ) (ws : List (List ℕ)) where
+  pub at-setting : is name Open ≡ true → (at : ℕ) → Stopped settings key_count s unsaid ws at → (at ≤ length s) × (words (drop at s) ≡ rest_named name ws)
   unfolding rest_named
-  at-setting e at h = (h.within, h.rest ∙ sym (pick-t _ _ _ (eq-eqb name open_name e)))
+  at-setting e at h = (h.within, h.rest ∙ sym (pick-t _ _ _ e))
 
-  module _ (f : name ≡ open_name → ⊥) (d : List ℕ) (r : Option Kind) (at : ℕ) (m e : List ℕ) (g : Arguments (form name) s unread_words d ws r at m e) where
+  module _ (f : is name Open ≡ false) (d : List ℕ) (r : Option Kind) (at : ℕ) (m e : List ℕ) (g : Arguments (form name).words s unread_words d ws r at m e) where
     pub at-word : (t : Kind) → r ≡ Some t → (at ≤ length s) × (words (drop at s) ≡ rest_named name ws)
     unfolding rest_named if_read
-    at-word t h = let u : unread (form name) ws ≡ Some t = sym g.told ∙ h in (g.within, g.rest ∙ sym (pick-f _ _ _ (ne_eqb name open_name f) ∙ rw u))
+    at-word t h = let u : unread (form name).words ws ≡ Some t = sym g.told ∙ h in (g.within, g.rest ∙ sym (pick-f _ _ _ f ∙ rw u))
 
-    pub at_option : r ≡ None → (to : ℕ) → to ≡ get_or ends name 0 → (z : ℕ) → Stopped buffer_key to s unsaid (words (drop at s)) z
+    pub at_option : r ≡ None → (to : ℕ) → to ≡ (form name).keys_end → (z : ℕ) → Stopped buffer_key to s unsaid (words (drop at s)) z
         → (z ≤ length s) × (words (drop z s) ≡ rest_named name ws)
     unfolding rest_named if_read
     at_option h to k z o = (
       o.within,
       o.rest
           ∙ ap (λ (x : ℕ). options_rest buffer_key x unsaid (words (drop at s))) k
-          ∙ ap (options_rest buffer_key (get_or ends name 0) unsaid) (g.follows h)
-          ∙ sym (pick-f _ _ _ (ne_eqb name open_name f) ∙ ap (λ (x : Option Kind). if_read x (options_rest buffer_key (get_or ends name 0) unsaid (options_of name ws)) (arguments_rest (form name) ws)) (sym g.told ∙ h)),
+          ∙ ap (options_rest buffer_key (form name).keys_end unsaid) (g.follows h)
+          ∙ sym (pick-f _ _ _ f ∙ ap (λ (x : Option Kind). if_read x (options_rest buffer_key (form name).keys_end unsaid (options_of name ws)) (arguments_rest (form name).words ws)) (sym g.told ∙ h)),
     )
 
 -- ---- in a line
@@ -87,18 +87,15 @@ module _ (line s : List ℕ) (q : s ≡ text_of line) where
     unfolding rest_words
     no_words z = let o = no_word s 0 a e w z in found-stands 0 a e w (o ∙ sym (ap rest_words o))
 
-    module _ (z : a ≡ e → ⊥) (name : ℕ) (k : name ≡ place (part s a e) names) where
-      pub no_name : name_count ≤ name → Stands line (found_in line) a e
+    module _ (z : a ≡ e → ⊥) (name : Option Name) (k : name ≡ name_of (part s a e)) where
+      by-name : rest_as name (part s a e) (words (drop e s)) ≡ rest_words (words s)
       unfolding rest_words
-      no_name b =
-          let o = one_word s 0 a e w z in
-          found-stands 0 a e w (o ∙ sym (pick-t _ _ _ (le-leb name_count (place (part s a e) names) (omega arith))) ∙ ap rest_words (sym o))
+      by-name = ap (λ (x : Option Name). rest_as x (part s a e) (words (drop e s))) k ∙ ap rest_words (sym (one_word s 0 a e w z))
 
-      pub after-name : name < name_count → (at x y : ℕ) → words (drop at s) ≡ rest_named name (words (drop e s)) → WordAt s at x y → Stands line (found_in line) x y
-      unfolding rest_words
-      after-name b at x y h v =
-          found-stands at x y v
-          (h
-          ∙ ap (λ (i : ℕ). rest_named i (words (drop e s))) k
-          ∙ sym (pick-f _ _ _ (lt-leb name_count (place (part s a e) names) (omega arith)))
-          ∙ ap rest_words (sym (one_word s 0 a e w z)))
+      pub no_name : name ≡ None → Stands line (found_in line) a e
+      unfolding rest_as
+      no_name b = found-stands 0 a e w (one_word s 0 a e w z ∙ (rw b at by-name))
+
+      pub after-name : (call : Name) → name ≡ Some call → (at x y : ℕ) → words (drop at s) ≡ rest_named call (words (drop e s)) → WordAt s at x y → Stands line (found_in line) x y
+      unfolding rest_as
+      after-name call b at x y h v = found-stands at x y v (h ∙ (rw b at by-name))

@@ -9,27 +9,6 @@ use Rattle.lines.specs.Key.{most_octets}
 use Rattle.values.specs.Value.{given, up_to, reading, sender}
 use Rattle.values.specs.Octets.{octets_of, octets_seen, octet_count}
 
--- what the words are, by name
-abbrev pub forms : List (List Kind)
-forms =
-    (Reading ∷ [])
-    ∷ (Reading ∷ [])
-    ∷ (Reading ∷ Reading ∷ Number ∷ [])
-    ∷ (Reading ∷ Reading ∷ Octet ∷ [])
-    ∷ (Reading ∷ Reading ∷ Sender ∷ Octets ∷ [])
-    ∷ (Reading ∷ Places ∷ [])
-    ∷ []
-    ∷ []
-    ∷ []
-    ∷ []
-    ∷ []
-    ∷ []
-    ∷ []
-    ∷ []
-
-abbrev pub form : ℕ → List Kind
-form name = get_or forms name []
-
 -- the most that each can be, a sender by its address and port as one number, octets by how many they are
 abbrev pub most : Kind → ℕ
 most Reading = 18446744073709551615

@@ -3,7 +3,6 @@ use Rattle.std.specs.Prelude.{ℕ, ◌≤◌, ◌<◌, List, [], ◌∷◌, ltb,
 use Rattle.std.specs.Float.{binary64}
 use Rattle.std.specs.Float.Ieee.{of_int, of_bits, to_bits}
 use Rattle.base.specs.Pick.{pick}
-use Rattle.text.specs.Name.{place}
 use Rattle.tuning.specs.Board.{board_info}
 use Rattle.model.specs.declared.settings.Settings.{Settings}
 use Rattle.model.specs.declared.settings.AttenuationChoice.{AttenuationChoice}
@@ -11,7 +10,9 @@ use Rattle.model.specs.declared.settings.AttenuationChoice.TheVariants.{Off, On,
 use Rattle.lines.specs.declared.Expected.{Expected}
 use Rattle.lines.specs.declared.Opening.{Opening}
 use Rattle.lines.specs.Key.{settings, at_key, receivers_key, centres_key, rate_key, centre_key, port_key, radio_key, board_key, attenuation_key, soft_key, hard_key, window_key, malformed_key, key_count, unsaid}
-use Rattle.lines.specs.Name.{names, open_name}
+use Rattle.lines.specs.declared.name.Name.{Name}
+use Rattle.lines.specs.declared.name.Name.TheVariants.{Open}
+use Rattle.lines.specs.Name.{name_of, is}
 use Rattle.lines.specs.Option.{limits, Took, expected_of, options_took, options_values}
 use Rattle.lines.specs.Call.{longest, words_of, or_else}
 
@@ -61,9 +62,13 @@ opened (Err x) l = unread_opening (expected_of x Expected.Setting)
 unfoldable pub opened_by : List (List ℕ) → Opening
 opened_by ws = opened (options_took settings key_count unsaid ws) (options_values unsaid ws)
 
+unfoldable pub open_as : Option Name → List (List ℕ) → Opening
+open_as None ws = unread_opening Expected.Open
+open_as (Some name) ws = pick (is name Open) (opened_by ws) (unread_opening Expected.Open)
+
 unfoldable pub open_words : List (List ℕ) → Opening
 open_words [] = unread_opening Expected.Open
-open_words (w ∷ ws) = pick (eqb (place w names) open_name) (opened_by ws) (unread_opening Expected.Open)
+open_words (w ∷ ws) = open_as (name_of w) ws
 
 unfoldable pub opening_of : List ℕ → Opening
 opening_of line = pick (ltb longest (length line)) (unread_opening Expected.ShorterLine) (open_words (words_of line))

@@ -9,7 +9,7 @@ ghost use Rattle.lines.specs.Open as Open;
 
 use super::call::or_else;
 use super::key::{KEY_COUNT, SETTINGS};
-use super::name::{OPEN, begins};
+use super::name::{Name, begins};
 use super::option::{OFF, ON, SKIPPED, UNSAID, options};
 use super::{Expected, LONGEST, MOST_NUMBERS, Opening, key};
 use model::settings::{AttenuationChoice, Settings};
@@ -137,8 +137,8 @@ pub(crate) fn read_settings(line: &[u8]) -> Opening
     let Some(name) = first.name else {
         return unread(Expected::Open);
     };
-    if name != OPEN {
-        return unread(Expected::Open);
+    if name == Name::Open {
+        return opened(&line[..text], end);
     }
-    opened(&line[..text], end)
+    unread(Expected::Open)
 }

@@ -1,25 +1,24 @@
 // Where the reading of a line stops: the line is read again, and nothing of it is kept.
-ghost use Rattle.std.specs.Prelude.{◌≡◌, ◌≤◌, ◌<◌, length, drop};
+ghost use Rattle.std.specs.Prelude.{◌≡◌, ◌≤◌, length, drop};
 ghost use Rattle.text.specs.Split.{words};
-ghost use Rattle.lines.specs.Name.{name_count};
 ghost use Rattle.lines.specs.Found as Found;
 
 use super::argument::arguments;
 use super::key::{BUFFER, KEY_COUNT, SETTINGS, WORD_COUNT};
-use super::name::{ENDS, OPEN, begins};
+use super::name::{Name, begins};
 use super::option::options;
 use super::{MOST_NUMBERS, MOST_OCTETS};
 use text::Word;
 
 // Behind the words of a name that can be read.
-fn stop(s: &[u8], at: usize, name: usize) -> usize
-    requires { (at ≤ length s.now) × (name < name_count) }
+fn stop(s: &[u8], at: usize, name: Name) -> usize
+    requires { at ≤ length s.now }
     ensures { (result ≤ length s.now) ×
         (words (drop result s.now) ≡ Found.rest_named name (words (drop at s.now))) }
 {
     let mut keys: [Option<u64>; KEY_COUNT] = [None; KEY_COUNT];
     let mut numbers = [0u32; MOST_NUMBERS];
-    if name == OPEN {
+    if name == Name::Open {
         let settings = options(s, at, SETTINGS, KEY_COUNT, &mut keys, &mut numbers);
         return settings.at;
     }
@@ -30,7 +29,7 @@ fn stop(s: &[u8], at: usize, name: usize) -> usize
     if given.unread.is_some() {
         return start;
     }
-    let run = options(s, start, BUFFER, ENDS[name], &mut keys, &mut numbers);
+    let run = options(s, start, BUFFER, name.keys_end(), &mut keys, &mut numbers);
     run.at
 }
 
