@@ -24,6 +24,7 @@ use Rattle.lines.specs.Argument.{most, argument_as, argument, argument_values}
 use Rattle.lines.specs.Option.{Took, Taken, spellings, limits, spelt_as, said, key_at, value_at, equals_in, value_of, took_key, took, values_key, values_after, and_then, options_took, options_values}
 use borrow.Author.Rules.{rules}
 use Rattle.std.specs.Option.{unwrap_or}
+use Rattle.lines.specs.declared.Endpoint.{Endpoint}
 use Rattle.lines.specs.declared.call.Values.{Values}
 use Rattle.lines.specs.Call.{or_else, call_of, Small, Fit}
 use Rattle.lines.proofs.Forms.{four-words, eight-kinds, buffer-within, is-take}
@@ -150,9 +151,9 @@ module _ (name : Name) (l : Values) (g : HeldWords name l.words) (h : HeldKeys l
   buffer-most : or_else l.keys buffer_key (form name).buffer ≤ 8192
   buffer-most = or-else-most l.keys buffer_key (form name).buffer 8192 (h.options buffer_key (omega arith)) (omega (arith, buffer-within name))
 
-  pub fit : (ip port : ℕ) → ip < 4294967296 → Fit (call_of name ip port l)
+  pub fit : (radio : Endpoint) → radio.ip < 4294967296 → Fit (call_of name radio l)
   unfolding call_of
-  fit ip port b =
+  fit radio b =
       record {
         kind = eight-kinds name;
         address = let z = g.words 2 (omega arith) in search rules;

@@ -4,6 +4,8 @@ use Rattle.stream.specs.Size.{per_datagram}
 use Rattle.base.specs.Pick.{pick}
 use Rattle.octets.specs.Written.{written}
 use Rattle.text.specs.Split.{words}
+use Rattle.lines.specs.declared.Asked.{Asked}
+use Rattle.lines.specs.declared.Endpoint.{Endpoint}
 use Rattle.lines.specs.declared.Expected.{Expected}
 use Rattle.lines.specs.declared.Read.{Read}
 use Rattle.lines.specs.declared.call.Values.{Values}
@@ -92,11 +94,11 @@ abbrev pub later_of : Name → Values → ℕ
 later_of name l = if is name Take then 0 else get_or l.words second_word 0
 
 -- the sender's address and port
-abbrev pub sender_of : Name → ℕ → ℕ → Values → ℕ × ℕ
-sender_of name ip port l =
+abbrev pub sender_of : Name → Endpoint → Values → ℕ × ℕ
+sender_of name radio l =
     if is name Datagram then (get_or l.words third_word 0 / 65536, get_or l.words third_word 0 % 65536) else
-    if is name Iq then (ip, (port + 11) % 65536) else
-    if is name Status then (ip, (port + 1) % 65536) else
+    if is name Iq then (radio.ip, (radio.port + 11) % 65536) else
+    if is name Status then (radio.ip, (radio.port + 1) % 65536) else
     (0, 0)
 
 abbrev pub count_of : Name → Values → ℕ
@@ -110,13 +112,13 @@ abbrev pub places_of : Name → Values → ℕ
 places_of name l = if is name Take then get_or l.words second_word 0 else or_else l.keys buffer_key (form name).buffer
 
 -- the call as eight numbers: kind, reading, later reading, the sender's address and port, octets, waiting numbers, places
-unfoldable pub call_of : Name → ℕ → ℕ → Values → List ℕ
-call_of name ip port l =
+unfoldable pub call_of : Name → Endpoint → Values → List ℕ
+call_of name radio l =
     (form name).kind
     ∷ get_or l.words first_word 0
     ∷ later_of name l
-    ∷ (sender_of name ip port l).0
-    ∷ (sender_of name ip port l).1
+    ∷ (sender_of name radio l).0
+    ∷ (sender_of name radio l).1
     ∷ count_of name l
     ∷ or_else l.keys waiting_key 0
     ∷ places_of name l
@@ -164,13 +166,13 @@ named_seen name ws n =
     (options_seen buffer_key (form name).keys_end unsaid n (options_of name ws))
     n
 
--- the words ws of a call's name were read as r, and the lent buffers, which were b, d and n, are then c, e and m
-pub record Named (name : Name) (ip port : ℕ) (b d n : List ℕ) (ws : List (List ℕ)) (r : Told) (c e m : List ℕ) : Type 0 where
+-- the words ws of a call's name were read as r, and what was lent, b before, is then c
+pub record Named (name : Name) (radio : Endpoint) (b : Asked) (ws : List (List ℕ)) (r : Told) (c : Asked) : Type 0 where
   pub told : r ≡ read_named name ws
-  pub call : c ≡ on_call r (call_of name ip port (values_of name ws)) b
-  pub octets : e ≡ on_call r (octets_of name (values_of name ws) (argument_octets (form name).words ws d)) (arguments_seen (form name).words ws d)
-  pub numbers : m ≡ on_call r (options_numbers n (options_of name ws)) (named_seen name ws n)
-  pub fit : r ≡ Ok Read.Call → Fit c
+  pub call : c.call ≡ on_call r (call_of name radio (values_of name ws)) b.call
+  pub octets : c.octets ≡ on_call r (octets_of name (values_of name ws) (argument_octets (form name).words ws b.octets)) (arguments_seen (form name).words ws b.octets)
+  pub numbers : c.numbers ≡ on_call r (options_numbers b.numbers (options_of name ws)) (named_seen name ws b.numbers)
+  pub fit : r ≡ Ok Read.Call → Fit c.call
 
 -- what f makes of a call's name and the words after it; z of a line that is too long, has no words, is an `open` or names no call
 unfoldable pub of_called : (Name → List (List ℕ) → List ℕ) → List ℕ → Option Name → List (List ℕ) → List ℕ
@@ -185,8 +187,8 @@ unfoldable pub of_line : (Name → List (List ℕ) → List ℕ) → List ℕ �
 of_line f z line = pick (ltb longest (length line)) z (of_named f z (words_of line))
 
 -- what a call of the line gives: its numbers, its octets in d and its waiting numbers in n
-abbrev pub line_call : List ℕ → ℕ → ℕ → List ℕ
-line_call line ip port = of_line (λ name ws. call_of name ip port (values_of name ws)) [] line
+abbrev pub line_call : List ℕ → Endpoint → List ℕ
+line_call line radio = of_line (λ name ws. call_of name radio (values_of name ws)) [] line
 
 abbrev pub line_octets : List ℕ → List ℕ → List ℕ
 line_octets line d = of_line (λ name ws. octets_of name (values_of name ws) (argument_octets (form name).words ws d)) d line
@@ -201,11 +203,11 @@ octets_left line d = of_line (λ name ws. arguments_seen (form name).words ws d)
 abbrev pub numbers_left : List ℕ → List ℕ → List ℕ
 numbers_left line n = of_line (λ name ws. named_seen name ws n) n line
 
--- the line was read as r, and the lent buffers, which were b, d and n, are then c, e and m: after a call all three are the call's; after
--- any other answer the eight numbers are as they were, and octets and numbers are as the reading left them
-pub record Lent (line : List ℕ) (ip port : ℕ) (b d n : List ℕ) (r : Told) (c e m : List ℕ) : Type 0 where
+-- the line was read as r, and what was lent, b before, is then c: after a call all of it is the call's; after any other answer the eight
+-- numbers are as they were, and octets and numbers are as the reading left them
+pub record Lent (line : List ℕ) (radio : Endpoint) (b : Asked) (r : Told) (c : Asked) : Type 0 where
   pub told : r ≡ read_line line
-  pub call : c ≡ on_call r (line_call line ip port) b
-  pub octets : e ≡ on_call r (line_octets line d) (octets_left line d)
-  pub numbers : m ≡ on_call r (line_numbers line n) (numbers_left line n)
-  pub fit : r ≡ Ok Read.Call → Fit c
+  pub call : c.call ≡ on_call r (line_call line radio) b.call
+  pub octets : c.octets ≡ on_call r (line_octets line b.octets) (octets_left line b.octets)
+  pub numbers : c.numbers ≡ on_call r (line_numbers line b.numbers) (numbers_left line b.numbers)
+  pub fit : r ≡ Ok Read.Call → Fit c.call

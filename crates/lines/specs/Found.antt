@@ -1,7 +1,6 @@
 -- What stands in a line: its first word, and the word at which its reading stops. Definitions only.
-use Rattle.std.specs.Prelude.{ℕ, ◌≤◌, ◌≡◌, List, [], ◌∷◌, length, get_or, Option, Some, None}
+use Rattle.std.specs.Prelude.{ℕ, List, [], ◌∷◌, length, get_or, Option, Some, None}
 use Rattle.base.specs.Pick.{pick}
-use Rattle.text.specs.Split.{part}
 use Rattle.lines.specs.Key.{buffer_key, settings, key_count, unsaid}
 use Rattle.lines.specs.declared.name.Name.{Name}
 use Rattle.lines.specs.declared.name.Name.TheVariants.{Open}
@@ -35,9 +34,3 @@ found_in line = get_or (rest_words (words_of line)) 0 []
 -- the first word; none where the line has no words
 unfoldable pub first_in : List ℕ → List ℕ
 first_in line = get_or (words_of line) 0 []
-
--- a word stands in the line from start to end
-pub record Stands (line word : List ℕ) (start end : ℕ) : Type 0 where
-  pub ordered : start ≤ end
-  pub within : end ≤ length line
-  pub reads : part line start end ≡ word

@@ -1,9 +1,9 @@
 -- The names of calls, what a call of each has, and the name that a line begins with. Definitions only.
-use Rattle.std.specs.Prelude.{ℕ, ◌≤◌, ◌≡◌, Bool, List, [], ◌∷◌, length, take, slice_get, Option}
+use Rattle.std.specs.Prelude.{ℕ, ◌≡◌, Bool, List, [], ◌∷◌, take, slice_get, Option}
 use denote.Enum.Bare.{sameb}
 use Rattle.text.specs.Run.{run, other}
 use Rattle.text.specs.Name.{named, place}
-use Rattle.text.specs.Split.{part, WordAt}
+use Rattle.text.specs.Split.{words}
 use Rattle.lines.specs.contracts.name.Name.{the_type}
 use Rattle.lines.specs.declared.name.Name.{Name}
 use Rattle.lines.specs.declared.name.Name.TheVariants.{Begin, Pass, Iq, Status, Datagram, Take, Close, Missing, Discontinuity, Stalled, State, Radio, Open}
@@ -68,9 +68,7 @@ form Open = record { words = []; keys_end = buffer_key; kind = 0; buffer = 0 }
 abbrev pub text_of : List ℕ → List ℕ
 text_of line = take (run (other 35) line) line
 
--- a line's text ends at text, and its first word, from start to end, has this name, if it is one
-pub record Begins (line : List ℕ) (text start end : ℕ) (name : Option Name) : Type 0 where
-  pub within : text ≤ length line
-  pub cut : take text line ≡ text_of line
-  pub word : WordAt (take text line) 0 start end
-  pub named : name ≡ name_of (part (take text line) start end)
+-- a line's first word, what it names, and what follows it
+pub record Begins (line word : List ℕ) (name : Option Name) (rest : List ℕ) : Type 0 where
+  pub reads : words (text_of line) ≡ word ∷ words rest
+  pub named : name ≡ name_of word

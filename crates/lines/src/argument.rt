@@ -1,5 +1,5 @@
 // The words that stand after a call's name, into a lent list of values.
-ghost use Rattle.std.specs.Prelude.{◌≡◌, ◌≤◌, ◌<◌, length, drop};
+ghost use Rattle.std.specs.Prelude.{◌≡◌, ◌≤◌, length};
 ghost use Rattle.text.specs.Split.{words};
 ghost use Rattle.lines.specs.Argument as Argument;
 ghost use Rattle.lines.specs.Key.{word_count, most_octets};
@@ -60,43 +60,40 @@ fn argument(kind: Kind, w: &[u8], room: &mut [u8]) -> Option<u64>
 }
 
 #[derive(Clone, Copy)]
-pub(crate) struct Words {
+pub(crate) struct Words<'a> {
     // what the first word is that isn't there or can't be read
     pub(crate) unread: Option<Kind>,
-    pub(crate) at: usize,
+    // what is left, from that word on, or behind all of them
+    pub(crate) left: &'a [u8],
 }
 
-// The words of s from `start` on, as those of a name.
-pub(crate) fn arguments(
-    s: &[u8],
-    start: usize,
+// The words of s, as those of a name.
+pub(crate) fn arguments<'a>(
+    s: &'a [u8],
     name: Name,
     values: &mut [u64],
     room: &mut [u8],
-) -> Words
-    requires { (start ≤ length s.now) × (word_count ≤ length values.old) × (most_octets ≤ length room.old) }
-    ensures { Argument.Arguments (form name).words s.now values.old room.old
-        (words (drop start s.now)) result.unread result.at values.new room.new }
+) -> Words<'a>
+    requires { (word_count ≤ length values.old) × (most_octets ≤ length room.old) }
+    ensures { Argument.Arguments (form name).words values.old room.old
+        (words s.now) result.unread result.left.now values.new room.new }
 {
-    let mut at = start;
+    let mut left = s;
     for (j, &kind) in name.words().iter().enumerate() {
-        let word = text::word_at(s, at);
-        let from = word.start;
-        let end = word.end;
-        if from == end {
+        let Some((word, rest)) = text::split_word(left) else {
             return Words {
                 unread: Some(kind),
-                at,
+                left,
             };
-        }
-        let Some(v) = argument(kind, &s[from..end], &mut *room) else {
+        };
+        let Some(v) = argument(kind, word, &mut *room) else {
             return Words {
                 unread: Some(kind),
-                at,
+                left,
             };
         };
         values[j] = v;
-        at = end;
+        left = rest;
     }
-    Words { unread: None, at }
+    Words { unread: None, left }
 }

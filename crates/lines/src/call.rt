@@ -1,14 +1,14 @@
 // A line's call: its name, then what stands after it.
-ghost use Rattle.std.specs.Prelude.{◌≡◌, ◌≤◌, ◌<◌, length, drop};
+ghost use Rattle.std.specs.Prelude.{◌≡◌, ◌≤◌, ◌<◌, length};
 ghost use Rattle.text.specs.Split.{words};
 ghost use Rattle.lines.specs.Call as Call;
-ghost use Rattle.lines.specs.Key.{key_count, most_octets, most_numbers};
+ghost use Rattle.lines.specs.Key.{key_count, most_octets};
 
 use super::argument::{Kind, arguments};
 use super::key::{BUFFER, KEY_COUNT, WORD_COUNT};
 use super::name::{Name, begins};
 use super::option::options;
-use super::{Expected, LONGEST, MOST_NUMBERS, MOST_OCTETS, Read, key};
+use super::{Asked, Endpoint, Expected, LONGEST, Read, key};
 use iq::IQ_DATAGRAM_LEN;
 use stream::{BITS_PER_SAMPLE, SAMPLES_PER_DATAGRAM};
 use values::datagram::{put_iq, put_status};
@@ -69,14 +69,14 @@ fn later_of(name: Name, values: &Values) -> u64
 }
 
 // The sender's address and port: those that the line says, or the radio's own of the datagram's kind.
-fn sender_of(name: Name, ip: u32, port: u16, values: &Values) -> (u64, u64)
-    ensures { result ≡ Call.sender_of name ip port values.now }
+fn sender_of(name: Name, radio: Endpoint, values: &Values) -> (u64, u64)
+    ensures { result ≡ Call.sender_of name radio values.now }
 {
     let said = values.words[key::THIRD_WORD];
     match name {
         Name::Datagram => (said / 65536, said % 65536),
-        Name::Iq => (u64::from(ip), u64::from(port.wrapping_add(11))),
-        Name::Status => (u64::from(ip), u64::from(port.wrapping_add(1))),
+        Name::Iq => (u64::from(radio.ip), u64::from(radio.port.wrapping_add(11))),
+        Name::Status => (u64::from(radio.ip), u64::from(radio.port.wrapping_add(1))),
         _ => (0, 0),
     }
 }
@@ -101,13 +101,13 @@ fn places_of(name: Name, values: &Values) -> u64
     or_else(&values.keys, BUFFER, name.buffer())
 }
 
-fn call_of(name: Name, ip: u32, port: u16, values: &Values) -> [u64; 8]
-    ensures { result ≡ Call.call_of name ip port values.now }
+fn call_of(name: Name, radio: Endpoint, values: &Values) -> [u64; 8]
+    ensures { result ≡ Call.call_of name radio values.now }
 {
     let kind = name.kind();
     let reading = values.words[key::FIRST_WORD];
     let later = later_of(name, values);
-    let (address, from) = sender_of(name, ip, port, values);
+    let (address, from) = sender_of(name, radio, values);
     let count = count_of(name, values);
     let waiting = or_else(&values.keys, key::WAITING, 0);
     let places = places_of(name, values);
@@ -131,65 +131,42 @@ fn put_datagram(name: Name, values: &Values, octets: &mut [u8])
     }
 }
 
-fn read_named(
-    s: &[u8],
-    at: usize,
-    name: Name,
-    ip: u32,
-    port: u16,
-    call: &mut [u64; 8],
-    octets: &mut [u8],
-    numbers: &mut [u32],
-) -> Result<Read, Expected>
-    requires { (at ≤ length s.now) × (most_octets ≤ length octets.old) × (most_numbers ≤ length numbers.old) }
-    ensures { Call.Named name ip port call.old octets.old numbers.old
-        (words (drop at s.now)) result call.new octets.new numbers.new }
+fn read_named(s: &[u8], name: Name, radio: Endpoint, asked: &mut Asked) -> Result<Read, Expected>
+    ensures { Call.Named name radio asked.old (words s.now) result asked.new }
 {
     let mut words = [0u64; WORD_COUNT];
-    let given = arguments(s, at, name, &mut words, &mut *octets);
-    let start = given.at;
+    let given = arguments(s, name, &mut words, &mut asked.octets);
     if let Some(kind) = given.unread {
         return Err(expected_word(kind));
     }
     let mut keys: [Option<u64>; KEY_COUNT] = [None; KEY_COUNT];
-    let run = options(s, start, BUFFER, name.keys_end(), &mut keys, &mut *numbers);
+    let end = name.keys_end();
+    let run = options(given.left, BUFFER, end, &mut keys, &mut asked.numbers);
     if let Err(untaken) = run.took {
         return Err(untaken.expected(Expected::End));
     }
     let asks = asks(name);
     if asks == Read::Call {
         let values = Values { words, keys };
-        *call = call_of(name, ip, port, &values);
-        put_datagram(name, &values, octets);
+        asked.call = call_of(name, radio, &values);
+        put_datagram(name, &values, &mut asked.octets);
         return Ok(Read::Call);
     }
     Ok(asks)
 }
 
-pub(crate) fn read_line(
-    line: &[u8],
-    ip: u32,
-    port: u16,
-    call: &mut [u64; 8],
-    octets: &mut [u8; MOST_OCTETS],
-    numbers: &mut [u32; MOST_NUMBERS],
-) -> Result<Read, Expected>
-    ensures { Call.Lent line.now ip port call.old octets.old numbers.old result
-        call.new octets.new numbers.new }
+pub(crate) fn read_line(line: &[u8], radio: Endpoint, asked: &mut Asked) -> Result<Read, Expected>
+    ensures { Call.Lent line.now radio asked.old result asked.new }
 {
     if line.len() > LONGEST {
         return Err(Expected::ShorterLine);
     }
-    let first = begins(line);
-    let text = first.text;
-    let end = first.end;
-    if first.start == end {
+    let Some(first) = begins(line) else {
         return Ok(Read::Nothing);
-    }
+    };
     let name = first.name.ok_or(Expected::Call)?;
     if name == Name::Open {
         return Ok(Read::Open);
     }
-    let s = &line[..text];
-    read_named(s, end, name, ip, port, call, octets, numbers)
+    read_named(first.rest, name, radio, asked)
 }

@@ -1,6 +1,7 @@
 // The names of calls, what a line of each has, and the name that a line begins with.
-ghost use Rattle.std.specs.Prelude.{◌≡◌};
-ghost use Rattle.lines.specs.Name.{Begins, form, name_of};
+ghost use Rattle.std.specs.Prelude.{◌≡◌, [], MatchOption};
+ghost use Rattle.text.specs.Split.{words};
+ghost use Rattle.lines.specs.Name.{Begins, form, name_of, text_of};
 
 use super::argument::Kind;
 use super::key::{BUFFER, LENGTH, SETTINGS, WAITING};
@@ -106,29 +107,24 @@ impl Name {
     }
 }
 
-// A line's text ends where its comment starts. Its first word ends where it starts if the line has no words.
+// A line's first word, what it names, and what follows it, without the line's comment.
 #[derive(Clone, Copy)]
-pub(crate) struct Beginning {
-    pub(crate) text: usize,
-    pub(crate) start: usize,
-    pub(crate) end: usize,
+pub(crate) struct Beginning<'a> {
+    pub(crate) word: &'a [u8],
     // none if the word is no name
     pub(crate) name: Option<Name>,
+    pub(crate) rest: &'a [u8],
 }
 
-pub(crate) fn begins(line: &[u8]) -> Beginning
-    ensures { Begins line.now result.text result.start result.end result.name }
+// None where the line has no words.
+pub(crate) fn begins(line: &[u8]) -> Option<Beginning>
+    ensures { MatchOption result (words (text_of line.now) ≡ []) (λ b. Begins line.now b.word.now b.name b.rest.now) }
 {
-    let text = text::find(line, b'#');
-    let s = &line[..text];
-    let word = text::word_at(s, 0);
-    let start = word.start;
-    let end = word.end;
-    let name = Name::of(&s[start..end]);
-    Beginning {
-        text,
-        start,
-        end,
-        name,
-    }
+    let end = text::find(line, b'#');
+    let (word, rest) = text::split_word(&line[..end])?;
+    Some(Beginning {
+        word,
+        name: Name::of(word),
+        rest,
+    })
 }

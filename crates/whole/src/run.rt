@@ -10,7 +10,6 @@ use desk::desk::{Desk, Flags, Request};
 use lines::{Opening, read_open};
 use opening::settings::{refusal, validate_protocol2};
 use std::io::{Error, Read};
-use std::num::wrapping_add_u64;
 use telling::error;
 
 // The session in hand: the number of its `open`, and what that line says.
@@ -23,8 +22,8 @@ pub(crate) struct Sitting {
 // By the line in hand, whose first word is `open`. Where its settings are refused no call is gathered.
 fn opened(d: &mut Desk, line: &[u8], list: &mut List) -> Sitting {
     let opening = read_open(line);
-    let settings = opening.settings;
-    d.is_open = refusal(validate_protocol2(settings)) == 0;
+    let refused = refusal(validate_protocol2(opening.settings));
+    d.radio = (refused == 0).then_some(opening.radio());
     list.clear();
     Sitting {
         line: d.line,
@@ -43,7 +42,7 @@ fn run_session(d: &mut Desk, sitting: Sitting, list: &List, out: &mut Output) {
 fn end(d: &Desk, fault: Option<Error>, out: &mut Output) {
     if let Some(error) = fault {
         out.tell_fault(b"standard input", error);
-        error::unread(out, wrapping_add_u64(d.line, 1));
+        error::unread(out, d.line.wrapping_add(1));
     }
     out.finish();
 }
@@ -66,10 +65,10 @@ fn run_lines<R: Read>(from: &mut R, text: &mut [u8; INPUT], list: &mut List, out
             }
         };
         read(&mut d, line, sitting, list, out);
-        if let (Request::Open | Request::End, Some(sitting)) = (d.asks, sitting) {
+        if let (Request::Open(_) | Request::End, Some(sitting)) = (d.asks, sitting) {
             run_session(&mut d, sitting, list, out);
         }
-        if let (Request::Open, Some(line)) = (d.asks, line) {
+        if let (Request::Open(_), Some(line)) = (d.asks, line) {
             sitting = Some(opened(&mut d, line, list));
         }
     }

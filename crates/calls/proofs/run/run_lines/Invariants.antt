@@ -4,4 +4,4 @@ use Rattle.holding.specs.Held.{Holds}
 use Rattle.calls.proofs.run.run_lines.Given as goal
 
 abbrev pub invariant-loop : goal.invariant-loop
-invariant-loop g l = Holds l.h l.samples l.table
+invariant-loop g l = Holds l.h l.rooms.samples l.rooms.table

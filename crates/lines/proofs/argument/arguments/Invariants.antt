@@ -4,4 +4,4 @@ use Rattle.lines.proofs.Fillings.{Filling}
 use Rattle.lines.proofs.argument.arguments.Given as goal
 
 abbrev pub invariant-loop-j : goal.invariant-loop-j
-invariant-loop-j l = Filling (form l.fn.name).words l.s l.initial.values l.initial.room l.start l.at l.j l.values l.room
+invariant-loop-j l = Filling (form l.fn.name).words l.fn.s l.initial.values l.initial.room l.left l.j l.values l.room

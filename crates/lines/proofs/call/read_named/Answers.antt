@@ -13,19 +13,19 @@ use borrow.Author.Rules.{rules}
 use Rattle.lines.proofs.call.read_named.Goals as goal
 
 pub returns-in-Some : goal.returns-in-Some
-returns-in-Some c = rw c.expected_word.ensures (not-read _ _ _ _ _ _ _ _ _ _ _ _ c.arguments-given.ensures _ c.in-Some.is)
+returns-in-Some c = rw c.expected_word.ensures (not-read _ _ _ _ _ _ _ _ c.arguments-given.ensures _ c.in-Some.is)
 
 pub options-run-requires : goal.options-run-requires
-options-run-requires c = (c.arguments-given.ensures.within, omega (arith, c.keys_end.ensures, keys-within c.args.name), search rules, search rules)
+options-run-requires c = (omega (arith, c.keys_end-end.ensures, keys-within c.args.name), search rules, search rules)
 
 pub returns-in-Err : goal.returns-in-Err
-returns-in-Err c = rw c.expected.ensures (untaken _ _ _ _ _ _ _ _ _ _ _ _ c.arguments-given.ensures c.in_default.is _ c.keys_end.ensures _ _ _ c.options-run.ensures.0 _ c.in-Err.is)
+returns-in-Err c = rw c.expected.ensures (untaken _ _ _ _ _ _ _ _ c.arguments-given.ensures c.in_default.is _ c.keys_end-end.ensures _ _ _ c.options-run.ensures.0 _ c.in-Err.is)
 
 pub put_datagram-requires : goal.put_datagram-requires
-put_datagram-requires c = (search rules, small _ _ (held-words _ 0 0 _ [] _ _ _ _ _ _ _ c.arguments-given.ensures c.in_default.is _ c.keys_end.ensures _ _ _ c.options-run.ensures.0 c.in_default-took.is) (held-keys _ 0 0 _ [] _ _ _ _ _ _ _ c.arguments-given.ensures c.in_default.is _ c.keys_end.ensures _ _ _ c.options-run.ensures.0 c.in_default-took.is))
+put_datagram-requires c = (search rules, small _ _ (held-words _ c.args.radio c.args.asked.now _ _ _ _ _ c.arguments-given.ensures c.in_default.is _ c.keys_end-end.ensures _ _ _ c.options-run.ensures.0 c.in_default-took.is) (held-keys _ c.args.radio c.args.asked.now _ _ _ _ _ c.arguments-given.ensures c.in_default.is _ c.keys_end-end.ensures _ _ _ c.options-run.ensures.0 c.in_default-took.is))
 
 pub returns-then-eq : goal.returns-then-eq
-returns-then-eq c = done _ _ _ _ _ _ _ _ _ _ _ _ c.arguments-given.ensures c.in_default.is _ c.keys_end.ensures _ _ _ c.options-run.ensures.0 c.in_default-took.is (sym c.asks-asks.ensures ∙ same_true the_type (search rules) _ _ (sym c.eq.ensures ∙ c.if-eq.true)) c.ranges.ip.fits _ _ c.call_of.ensures c.put_datagram.ensures
+returns-then-eq c = done _ _ _ _ _ _ _ _ c.arguments-given.ensures c.in_default.is _ c.keys_end-end.ensures _ _ _ c.options-run.ensures.0 c.in_default-took.is (sym c.asks-asks.ensures ∙ same_true the_type (search rules) _ _ (sym c.eq.ensures ∙ c.if-eq.true)) (search rules) _ _ c.call_of-asked.ensures c.put_datagram.ensures
 
 pub returns : goal.returns
-returns c = asked _ _ _ _ _ _ _ _ _ _ _ _ c.arguments-given.ensures c.in_default.is _ c.keys_end.ensures _ _ _ c.options-run.ensures.0 c.in_default-took.is _ c.asks-asks.ensures (λ q. true≢false (rw q at (sym c.eq.ensures ∙ c.if-eq.false)))
+returns c = asked _ _ _ _ _ _ _ _ c.arguments-given.ensures c.in_default.is _ c.keys_end-end.ensures _ _ _ c.options-run.ensures.0 c.in_default-took.is _ c.asks-asks.ensures (λ q. true≢false (rw q at (sym c.eq.ensures ∙ c.if-eq.false)))
