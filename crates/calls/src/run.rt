@@ -1,7 +1,8 @@
 // The lines of a list, each read, run and answered in turn.
+ghost use Rattle.holding.specs.Held.{Holds};
+
 use super::practice::{listened, untold};
 use super::sessions::{Rooms, after, answered, told};
-use console::input::{Input, Next, ROOM as INPUT};
 use console::output::Output;
 use desk::desk::{Desk, Flags};
 use holding::unused;
@@ -41,47 +42,39 @@ fn end(d: &Desk, fault: Option<Error>, name: &[u8], out: &mut Output) -> Status 
     }
 }
 
-// A proved loop has to end, and nothing says that a file does: it has more turns than any run takes.
 fn run_lines<R: Read>(
     from: &mut R,
     name: &[u8],
     flags: Flags,
-    text: &mut [u8; INPUT],
     rooms: &mut Rooms,
     out: &mut Output,
 ) -> Status {
     let mut h = unused(&rooms.samples, &rooms.table);
     let mut p = untold();
     let mut d = Desk::new(flags);
-    let mut input = Input::new();
-    for _ in 0..u64::MAX {
-        if !d.goes_on(&input, out) {
-            break;
-        }
-        let line = match input.next(text) {
-            Next::Line(line) | Next::TooLong(line) => Some(line),
-            Next::Over => None,
-            Next::Cut => {
-                input.read_on(from, text, out);
-                continue;
-            }
-        };
-        d.read(line, &mut rooms.asked, out);
-        told(h, p, &d, &rooms.table, out);
-        let before = h.sitting.account;
-        h = after(h, d.asks, line, rooms);
-        p = listened(p, d.asks, &rooms.given);
-        answered(h, before, &mut d, rooms, out);
-    }
-    end(&d, input.fault(), name, out)
+    let fault = d.run_lines(
+        from,
+        out,
+        |d, line, out|
+            requires { Holds h rooms.now.samples rooms.now.table }
+            ensures { Holds h.exit rooms.exit.now.samples rooms.exit.now.table }
+        {
+            d.read(line, &mut rooms.asked, out);
+            told(h, p, d, &rooms.table, out);
+            let before = h.sitting.account;
+            h = after(h, d.asks, line, rooms);
+            p = listened(p, d.asks, &rooms.given);
+            answered(h, before, d, rooms, out);
+        },
+    );
+    end(&d, fault, name, out)
 }
 
 // Runs the list that is read, whose name is told where it can't be read.
 pub(crate) fn run<R: Read>(rt: &HostRuntime, from: &mut R, name: &[u8], flags: Flags) -> Status {
-    let mut text = [0u8; INPUT];
     let mut rooms = Rooms::new();
     let mut out = Output::new(rt.stdout(), rt.stderr());
-    run_lines(from, name, flags, &mut text, &mut rooms, &mut out)
+    run_lines(from, name, flags, &mut rooms, &mut out)
 }
 
 // A list that there is no file of: nothing of it is run.
