@@ -1,7 +1,7 @@
 -- The practice radio beside a session: which packets it is told, and what it keeps then (2026-02). Definitions only.
-use Rattle.std.specs.Prelude.{◌≡◌, ℕ, ◌+◌, ◌-◌, ◌%◌, ◌^◌, min, ◌≢◌, List, [], ◌∷◌, length, take, slice_index}
+use Rattle.std.specs.Prelude.{ℕ, ◌+◌, ◌-◌, ◌%◌, ◌^◌, min, List, [], ◌∷◌, length, take, slice_index}
 use Rattle.desk.specs.declared.desk.Request.{Request}
-use Rattle.desk.specs.declared.desk.Request.TheVariants.{Call, Open}
+use Rattle.desk.specs.declared.desk.Request.TheVariants.{Nothing, Call, State, Radio, Open, End}
 use Rattle.radio.specs.Answer.{Outcome}
 use Rattle.radio.specs.Listen.{cut, received, after, accepted}
 use Rattle.radio.specs.State.{at_first}
@@ -35,7 +35,10 @@ heard p packets a =
     }
 
 -- after a line that asks for this
-pub record Listened (asks : Request) (p : Practice) (packets a : List ℕ) (q : Practice) : Type 0 where
-  pub called : asks ≡ Call → q ≡ heard p packets a
-  pub opened : asks ≡ Open → q ≡ untold
-  pub other : asks ≢ Call → asks ≢ Open → q ≡ p
+abbrev pub listened : Request → Practice → List ℕ → List ℕ → Practice
+listened Call p packets a = heard p packets a
+listened (Open radio) p packets a = untold
+listened Nothing p packets a = p
+listened State p packets a = p
+listened Radio p packets a = p
+listened End p packets a = p

@@ -8,7 +8,6 @@ use desk::desk::Request;
 use desk::reply::Given;
 use radio::listen::read_commands;
 use radio::state::{HighPriority, Radio};
-use std::num::wrapping_add_u64;
 use telling::radio::tell as tell_radio;
 
 // The offsets of the streams that an answer lists stand behind their number, in five places.
@@ -69,17 +68,17 @@ fn heard(p: Practice, packets: &[u8; 8192], answers: &[u64; 8]) -> Practice
     let refused = (n - got.accepted) as u64;
     Practice {
         radio: got.radio,
-        refused: wrapping_add_u64(p.refused, refused),
+        refused: p.refused.wrapping_add(refused),
     }
 }
 
 // After a line that asks for this, and is run.
 pub(crate) fn listened(p: Practice, asks: Request, given: &Given) -> Practice
-    ensures { Practised.Listened asks p given.now.packets given.now.answers result }
+    ensures { result ≡ Practised.listened asks p given.now.packets given.now.answers }
 {
     match asks {
         Request::Call => heard(p, &given.packets, &given.answers),
-        Request::Open => untold(),
+        Request::Open(_) => untold(),
         _ => p,
     }
 }

@@ -1,16 +1,12 @@
 // The lines of a list, each read, run and answered in turn.
+ghost use Rattle.holding.specs.Held.{Holds};
+
 use super::practice::{listened, untold};
-use super::sessions::{after, answered, told};
-use console::input::{Input, Next, ROOM as INPUT};
+use super::sessions::{Rooms, after, answered, told};
 use console::output::Output;
 use desk::desk::{Desk, Flags};
-use desk::line::Asked;
-use desk::reply::Given;
 use holding::unused;
 use std::io::{Error, Read};
-use std::num::wrapping_add_u64;
-use stream::F32_PER_DATAGRAM;
-use tally::account::TABLE;
 use telling::error;
 
 // What became of a list. The program's status is its number.
@@ -34,7 +30,7 @@ fn unread(out: &mut Output, line: u64) -> Status {
 fn end(d: &Desk, fault: Option<Error>, name: &[u8], out: &mut Output) -> Status {
     if let Some(error) = fault {
         out.tell_fault(name, error);
-        return unread(out, wrapping_add_u64(d.line, 1));
+        return unread(out, d.line.wrapping_add(1));
     }
     if !out.finish() {
         return Status::Failed;
@@ -46,63 +42,39 @@ fn end(d: &Desk, fault: Option<Error>, name: &[u8], out: &mut Output) -> Status 
     }
 }
 
-// A proved loop has to end, and nothing says that a file does: it has more turns than any run takes.
 fn run_lines<R: Read>(
     from: &mut R,
     name: &[u8],
     flags: Flags,
-    text: &mut [u8; INPUT],
-    samples: &mut [f32; F32_PER_DATAGRAM],
-    asked: &mut Asked,
-    given: &mut Given,
-    table: &mut [u64; TABLE],
+    rooms: &mut Rooms,
     out: &mut Output,
 ) -> Status {
-    let mut h = unused(samples, table);
+    let mut h = unused(&rooms.samples, &rooms.table);
     let mut p = untold();
     let mut d = Desk::new(flags);
-    let mut input = Input::new();
-    for _ in 0..u64::MAX {
-        if !d.goes_on(&input, out) {
-            break;
-        }
-        let line = match input.next(text) {
-            Next::Line(line) | Next::TooLong(line) => Some(line),
-            Next::Over => None,
-            Next::Cut => {
-                input.read_on(from, text, out);
-                continue;
-            }
-        };
-        d.read(line, asked, out);
-        told(h, p, &d, table, out);
-        let before = h.sitting.account;
-        h = after(h, d.asks, line, samples, asked, given, table);
-        p = listened(p, d.asks, given);
-        answered(h, before, &mut d, asked, given, out);
-    }
-    end(&d, input.fault(), name, out)
+    let fault = d.run_lines(
+        from,
+        out,
+        |d, line, out|
+            requires { Holds h rooms.now.samples rooms.now.table }
+            ensures { Holds h.exit rooms.exit.now.samples rooms.exit.now.table }
+        {
+            d.read(line, &mut rooms.asked, out);
+            told(h, p, d, &rooms.table, out);
+            let before = h.sitting.account;
+            h = after(h, d.asks, line, rooms);
+            p = listened(p, d.asks, &rooms.given);
+            answered(h, before, d, rooms, out);
+        },
+    );
+    end(&d, fault, name, out)
 }
 
 // Runs the list that is read, whose name is told where it can't be read.
 pub(crate) fn run<R: Read>(rt: &HostRuntime, from: &mut R, name: &[u8], flags: Flags) -> Status {
-    let mut text = [0u8; INPUT];
-    let mut samples = [0.0f32; F32_PER_DATAGRAM];
-    let mut asked = Asked::new();
-    let mut given = Given::new();
-    let mut table = [0u64; TABLE];
+    let mut rooms = Rooms::new();
     let mut out = Output::new(rt.stdout(), rt.stderr());
-    run_lines(
-        from,
-        name,
-        flags,
-        &mut text,
-        &mut samples,
-        &mut asked,
-        &mut given,
-        &mut table,
-        &mut out,
-    )
+    run_lines(from, name, flags, &mut rooms, &mut out)
 }
 
 // A list that there is no file of: nothing of it is run.

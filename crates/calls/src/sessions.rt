@@ -9,46 +9,57 @@ use super::practice::Practice;
 use console::output::Output;
 use desk::desk::{Desk, Request};
 use desk::key;
-use desk::line::Asked;
 use desk::reply::Given;
 use encoding::words::KIND;
 use examining::sitting::end_of;
 use holding::{Held, called, opened};
-use lines::Expected;
+use lines::{Asked, Expected};
 use model::session::Session;
 use stream::F32_PER_DATAGRAM;
 use tally::account::{Account, TABLE};
 use telling::state;
 
+// What is lent to every line: what it is read into, what a call gives, and what stands beside the session.
+#[derive(Drop)]
+pub(crate) struct Rooms {
+    pub(crate) asked: Asked,
+    pub(crate) given: Given,
+    pub(crate) samples: [f32; F32_PER_DATAGRAM],
+    pub(crate) table: [u64; TABLE],
+}
+
+impl Rooms {
+    pub(crate) fn new() -> Rooms {
+        Rooms {
+            asked: Asked::new(),
+            given: Given::new(),
+            samples: [0.0; F32_PER_DATAGRAM],
+            table: [0; TABLE],
+        }
+    }
+}
+
 // After the line in hand, which asks for this. A call is run: its numbers are such as a line is read as. That the account stands is a
 // clause and no ghost field of the session: a ghost field has to be a fact with one proof, and `Stands` is told by a list of calls.
-pub(crate) fn after(
-    h: Held,
-    asks: Request,
-    line: Option<&[u8]>,
-    samples: &mut [f32; F32_PER_DATAGRAM],
-    asked: &Asked,
-    given: &mut Given,
-    table: &mut [u64; TABLE],
-) -> Held
-    requires asks { Asks asks asked.now.call }
-    requires holds { Holds h samples.old table.old }
-    ensures holds_2 { Holds result samples.new table.new }
+pub(crate) fn after(h: Held, asks: Request, line: Option<&[u8]>, rooms: &mut Rooms) -> Held
+    requires asks { Asks asks rooms.old.asked.call }
+    requires holds { Holds h rooms.old.samples rooms.old.table }
+    ensures holds_2 { Holds result rooms.new.samples rooms.new.table }
     ensures run { IsRun asks result.sitting.outcome }
 {
     match (asks, line) {
         (Request::Call, _) => called(
             h,
-            samples,
-            &asked.call,
-            &asked.octets,
-            &asked.numbers,
-            &mut given.packets,
-            &mut given.places,
-            &mut given.answers,
-            table,
+            &mut rooms.samples,
+            &rooms.asked.call,
+            &rooms.asked.octets,
+            &rooms.asked.numbers,
+            &mut rooms.given.packets,
+            &mut rooms.given.places,
+            &mut rooms.given.answers,
+            &mut rooms.table,
         ),
-        (Request::Open, Some(line)) => opened(line, samples, table),
+        (Request::Open(_), Some(line)) => opened(line, &rooms.samples, &rooms.table),
         _ => h,
     }
 }
@@ -81,28 +92,21 @@ pub(crate) fn told(h: Held, p: Practice, d: &Desk, table: &[u64; TABLE], out: &m
             d.put_number(out);
             practice::tell(p, out);
         }
-        Request::Open | Request::End => ended(h, table, out),
+        Request::Open(_) | Request::End => ended(h, table, out),
         Request::Nothing | Request::Call => {}
     }
 }
 
 // What a line is answered, of the session after it and the account before it.
-pub(crate) fn answered(
-    h: Held,
-    before: Account,
-    d: &mut Desk,
-    asked: &Asked,
-    given: &Given,
-    out: &mut Output,
-) {
+pub(crate) fn answered(h: Held, before: Account, d: &mut Desk, rooms: &Rooms, out: &mut Output) {
     match d.asks {
         Request::Call => {
-            d.tell_called(asked.call[KIND], before, given, out);
+            d.tell_called(rooms.asked.call[KIND], before, &rooms.given, out);
             if !h.sitting.fits {
                 d.stop(Expected::FewerStretches, b"", out);
             }
         }
-        Request::Open => d.tell_opened(h.refused, out),
+        Request::Open(radio) => d.tell_opened(radio, h.refused, out),
         Request::End => d.is_over = true,
         Request::Nothing | Request::State | Request::Radio => {}
     }

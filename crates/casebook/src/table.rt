@@ -1,10 +1,10 @@
 // Tables of functions: a row for each, a line of its name and of what it is given, a count of numbers and an o for octets.
-use super::words::word_at;
+use super::words::split_word;
 
 // Whether a row has this name and is given this.
 fn is_row(row: &[u8], name: &[u8], count: usize, has_octets: bool) -> bool {
-    let w = word_at(row, 0);
-    &row[w.start..w.end] == name && kinds(&row[w.end..], count, has_octets)
+    let (word, rest) = split_word(row);
+    word == name && kinds(rest, count, has_octets)
 }
 
 // Whether the word after a row's name says so many numbers, and octets or none.

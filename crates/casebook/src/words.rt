@@ -1,17 +1,11 @@
 // The words of a line, with spaces between them, and octets as a word spells them.
-ghost use Rattle.std.specs.Prelude.{◌≤◌, ◌<◌, IfSome, length};
+ghost use Rattle.std.specs.Prelude.{◌≤◌, IfSome, length};
 
-use text::Word;
-
-// The word that starts at or after `at`, empty where none is left. Only spaces part the words of a case, so `text::word_at`, which goes
-// by tabs and carriage returns too, does not serve.
-pub fn word_at(s: &[u8], at: usize) -> Word
-    requires { at ≤ length s.now }
-    ensures { (at ≤ result.start) × (result.start ≤ result.end) × (result.end ≤ length s.now) }
-{
-    let start = at + text::past(&s[at..], b' ');
-    let end = start + text::find(&s[start..], b' ');
-    Word { start, end }
+// The first word of s, and what follows it; both are empty where none is left. Only spaces part the words of a case, so
+// `text::split_word`, which goes by tabs and carriage returns too, does not serve.
+pub fn split_word(s: &[u8]) -> (&[u8], &[u8]) {
+    let left = &s[text::past(s, b' ')..];
+    left.split_at(text::find(left, b' '))
 }
 
 // Puts the octets of a word such as x:00ff at the front of room: how many.

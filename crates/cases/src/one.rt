@@ -20,24 +20,18 @@ fn told(a: Answer, came: &[u8], expected: &[u8], room: &mut [u8], out: &mut Outp
 }
 
 // The octets that a case gives stand at the front of given, and those that are expected go to wanted.
-fn one_case(line: &[u8], c: Case, given: &mut [u8], wanted: &mut [u8], out: &mut Output) -> bool
-    requires start_le_end { (c.name.start ≤ c.name.end) × (c.name.end ≤ length line.now) }
-    requires start_le_end_2 { IfSome c.expected (λ w. (w.start ≤ w.end) × (w.end ≤ length line.now)) }
+fn one_case(c: Case, given: &mut [u8], wanted: &mut [u8], out: &mut Output) -> bool
     requires octets_in_bounds { IfSome c.given.octets (λ count. count ≤ length given.old) }
 {
     let Some(expected) = c.expected else {
         report::not_understood(out);
         return false;
     };
-    let start = c.name.start;
-    let end = c.name.end;
-    let f = named(&line[start..end], c.given.count, c.given.octets.is_some());
+    let f = named(c.name, c.given.count, c.given.octets.is_some());
     let n = c.given.octets.unwrap_or(0);
     let numbers = c.given.numbers;
-    let a = answer(f, numbers, &mut given[0..n]);
-    let from = expected.start;
-    let to = expected.end;
-    told(a, &given[0..n], &line[from..to], wanted, out)
+    let a = answer(f, numbers, &mut given[..n]);
+    told(a, &given[..n], expected, wanted, out)
 }
 
 // A line that is not blank.
@@ -45,16 +39,15 @@ fn one_told(line: &[u8], number: u64, out: &mut Output) -> bool {
     let mut given = [0u8; OCTETS];
     let mut wanted = [0u8; OCTETS];
     let c = read(line, &mut given);
-    let start = c.name.start;
-    let end = c.name.end;
-    report::case(out, number, &line[start..end]);
-    one_case(line, c, &mut given, &mut wanted, out)
+    report::case(out, number, c.name);
+    one_case(c, &mut given, &mut wanted, out)
 }
 
 // A comment runs to the line's end.
 pub(crate) fn one_line(line: &[u8], t: &mut Tally, out: &mut Output) {
     let n = text::find(line, b'#');
-    if text::past(&line[0..n], b' ') < n {
-        t.next_case(one_told(&line[0..n], t.line, out));
+    let text = &line[..n];
+    if text::past(text, b' ') < n {
+        t.next_case(one_told(text, t.line, out));
     }
 }

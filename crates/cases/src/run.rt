@@ -5,7 +5,6 @@ use casebook::report::{too_long, total, unread};
 use console::input::{Input, Next, ROOM as INPUT};
 use console::output::Output;
 use std::io::{Error, Read};
-use std::num::wrapping_add_u64;
 
 // A line longer than the room is a case not as expected and the last that is read: what follows of it is no line of its own, and
 // must not pass for a case.
@@ -18,7 +17,7 @@ fn cut_off(t: &mut Tally, out: &mut Output) {
 // An input that failed is told, and counts as a case not as expected: a cut input would pass with the cases that are left.
 fn failed(t: &mut Tally, error: Error, out: &mut Output) {
     out.tell_fault(b"standard input", error);
-    unread(out, wrapping_add_u64(t.line, 1));
+    unread(out, t.line.wrapping_add(1));
     t.next_case(false)
 }
 

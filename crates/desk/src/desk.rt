@@ -3,7 +3,7 @@ ghost use Rattle.std.specs.Prelude.{◌≡◌, true, false};
 
 use console::input::Input;
 use console::output::Output;
-use lines::Expected;
+use lines::{Endpoint, Expected};
 use tally::account::STRETCHES;
 use telling::error;
 
@@ -14,7 +14,8 @@ pub enum Request {
     Call,
     State,
     Radio,
-    Open,
+    // a session, and where its radio is
+    Open(Endpoint),
     // there is no line any more
     End,
 }
@@ -35,11 +36,8 @@ pub struct Desk {
     // the line's number, and what it asks for
     pub line: u64,
     pub asks: Request,
-    // there is a session
-    pub is_open: bool,
-    // the radio's address and port
-    pub ip: u32,
-    pub port: u16,
+    // where the radio of the session is, if there is one
+    pub radio: Option<Endpoint>,
     // there are no more lines, or one could not be read
     pub is_over: bool,
     // one could not be read
@@ -52,9 +50,7 @@ impl Desk {
         Desk {
             line: 0,
             asks: Request::Nothing,
-            is_open: false,
-            ip: 0,
-            port: 0,
+            radio: None,
             is_over: false,
             is_wrong: false,
             flags,

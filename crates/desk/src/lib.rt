@@ -5,4 +5,5 @@
 pub mod desk;
 pub mod key;
 pub mod line;
+pub mod list;
 pub mod reply;

@@ -4,65 +4,35 @@ ghost use Rattle.desk.specs.Asked.{Asks};
 
 use super::desk::{Desk, Request};
 use console::output::Output;
-use lines::{Expected, Read, read_call, read_open};
-use std::num::wrapping_add_u64;
-
-// A call as a line is read: its numbers, its datagram and its waiting numbers.
-#[derive(Drop)]
-pub struct Asked {
-    pub call: [u64; 8],
-    pub octets: [u8; 2048],
-    pub numbers: [u32; 8193],
-}
-
-impl Asked {
-    pub fn new() -> Asked {
-        Asked {
-            call: [0; 8],
-            octets: [0; 2048],
-            numbers: [0; 8193],
-        }
-    }
-}
+use lines::{Asked, Expected, Read, read_call, read_open};
 
 impl Desk {
-    // An `open`: the radio's address and port go to the desk.
+    // An `open`. Whether there is a session then is for whoever opens it to say (`tell_opened`).
     pub fn read_open(&mut self, line: &[u8], out: &mut Output)
         ensures { self.new.asks ≢ Request.Call }
     {
-        let asked = read_open(line);
-        let read = asked.read;
-        if let Err(e) = read {
+        let opening = read_open(line);
+        if let Err(e) = opening.read {
             return self.stop(e, line, out);
         }
-        let settings = asked.settings;
-        self.asks = Request::Open;
-        self.ip = settings.radio_ip;
-        self.port = settings.port;
+        self.asks = Request::Open(opening.radio());
     }
 
     // What a session answers: there has to be one.
     fn ask_session(&mut self, asks: Request, line: &[u8], out: &mut Output)
         ensures { self.new.asks ≡ Request.Nothing ⊎ self.new.asks ≡ asks }
     {
-        if !self.is_open {
+        if self.radio.is_none() {
             return self.stop(Expected::Open, line, out);
         }
         self.asks = asks;
     }
 
+    // Without a session a line is read as of any radio: what it is, or what was expected in it, is the same of all.
     fn read_line(&mut self, line: &[u8], asked: &mut Asked, out: &mut Output)
         ensures { Asks self.new.asks asked.new.call }
     {
-        let read = read_call(
-            line,
-            self.ip,
-            self.port,
-            &mut asked.call,
-            &mut asked.octets,
-            &mut asked.numbers,
-        );
-        match read {
+        match read_call(line, self.radio.unwrap_or_default(), asked) {
             Ok(Read::Nothing) => self.asks = Request::Nothing,
             Ok(Read::Open) => self.read_open(line, out),
             Ok(Read::Call) => self.ask_session(Request::Call, line, out),
@@ -78,7 +48,7 @@ impl Desk {
     {
         match line {
             Some(line) => {
-                self.line = wrapping_add_u64(self.line, 1);
+                self.line = self.line.wrapping_add(1);
                 self.read_line(line, asked, out)
             }
             None => self.asks = Request::End,

@@ -1,10 +1,11 @@
 // What a line is answered, once it is run: a line of text.
-ghost use Rattle.std.specs.Prelude.{◌≡◌, ◌↔◌, IsTrue};
+ghost use Rattle.std.specs.Prelude.{◌≡◌, ◌==◌, if◌then◌else◌, Some, None};
 
 use super::desk::Desk;
 use super::key;
 use answers::{CODE, GAP, VALUE};
 use console::output::Output;
+use lines::Endpoint;
 use tally::account::Account;
 use telling::answer;
 
@@ -35,13 +36,14 @@ fn put_gap(out: &mut Output, before: Account, answers: &[u64; 8]) {
 }
 
 impl Desk {
-    // A session was just opened, or its settings were refused by 01's number, which is above 0 (`Opens` of holding).
-    pub fn tell_opened(&mut self, refused: u64, out: &mut Output)
-        ensures { IsTrue self.new.is_open ↔ refused ≡ 0 }
+    // A session of the radio that is there was just opened, or its settings were refused by 01's number, which is above 0 (`Opens` of
+    // holding).
+    pub fn tell_opened(&mut self, radio: Endpoint, refused: u64, out: &mut Output)
+        ensures { self.new.radio ≡ (if refused == 0 then Some radio else None) }
     {
         self.put_number(out);
-        self.is_open = refused == 0;
-        if self.is_open {
+        self.radio = (refused == 0).then_some(radio);
+        if refused == 0 {
             return out.put(b"opened\n");
         }
         out.filled(b"refused #\n", &[refused])

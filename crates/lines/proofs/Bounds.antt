@@ -18,13 +18,16 @@ use Rattle.lines.specs.declared.argument.Kind.TheVariants.{Reading}
 use Rattle.lines.specs.declared.option.Spelling.TheVariants.{Number}
 use Rattle.values.specs.Value.{given, up_to}
 use Rattle.lines.specs.Key.{buffer_key, waiting_key, length_key, bits_key, samples_key, key_count, word_count, unread_words, unsaid, most_octets}
-use Rattle.lines.specs.Name.{datagram_name, take_name, kinds, buffers}
-use Rattle.lines.specs.Argument.{form, most, argument_as, argument, argument_values}
+use Rattle.lines.specs.declared.name.Name.{Name}
+use Rattle.lines.specs.Name.{form}
+use Rattle.lines.specs.Argument.{most, argument_as, argument, argument_values}
 use Rattle.lines.specs.Option.{Took, Taken, spellings, limits, spelt_as, said, key_at, value_at, equals_in, value_of, took_key, took, values_key, values_after, and_then, options_took, options_values}
+use borrow.Author.Rules.{rules}
 use Rattle.std.specs.Option.{unwrap_or}
+use Rattle.lines.specs.declared.Endpoint.{Endpoint}
 use Rattle.lines.specs.declared.call.Values.{Values}
-use Rattle.lines.specs.Call.{or_else, address_of, port_of, count_of, places_of, call_of, Small, Fit}
-use Rattle.lines.proofs.Forms.{get_or-under, four-words}
+use Rattle.lines.specs.Call.{or_else, call_of, Small, Fit}
+use Rattle.lines.proofs.Forms.{four-words, eight-kinds, buffer-within, is-take}
 
 get_or-set-le : (l : List ℕ) (i v k b : ℕ) → get_or l k 0 ≤ b → (k ≡ i → v ≤ b) → get_or (set l i v) k 0 ≤ b
 get_or-set-le [] i v k b h e = h
@@ -55,29 +58,29 @@ pub record HeldKeys (l : List (Option ℕ)) : Type 0 where
   pub options : (k : ℕ) → k < key_count → or_else l k 0 ≤ get_or limits k 0
 
 -- every word's of the form is within its own
-pub record HeldWords (name : ℕ) (l : List ℕ) : Type 0 where
-  pub words : (j : ℕ) → j < 4 → get_or l j 0 ≤ most (get_or (form name) j Reading)
+pub record HeldWords (name : Name) (l : List ℕ) : Type 0 where
+  pub words : (j : ℕ) → j < 4 → get_or l j 0 ≤ most (get_or (form name).words j Reading)
 
 pub held-unsaid : HeldKeys unsaid
 unfolding or_else
 held-unsaid = record { options = λ k h. rw (get_or-replicate {A = Option ℕ} key_count k None None h) (omega arith) }
 
-held-unread : (name : ℕ) → HeldWords name unread_words
+held-unread : (name : Name) → HeldWords name unread_words
 held-unread name = record { words = λ j h. omega (arith, get_or-replicate {A = ℕ} word_count j 0 0 (omega arith)) }
 
-held_word : (name : ℕ) (l : List ℕ) (j v : ℕ) → HeldWords name l → v ≤ most (get_or (form name) j Reading) → HeldWords name (set l j v)
+held_word : (name : Name) (l : List ℕ) (j v : ℕ) → HeldWords name l → v ≤ most (get_or (form name).words j Reading) → HeldWords name (set l j v)
 held_word name l j v h b = record { words = λ i d. get_or-set-le l j v i _ (h.words i d) (λ z. rw z b) }
 
-pub held-arguments : (name : ℕ) (ts : List Kind) (ws : List (List ℕ)) (j : ℕ) (l : List ℕ) → j + length ts ≤ 4 → ((i : ℕ) → get_or ts i Reading ≡ get_or (form name) (j + i) Reading)
+pub held-arguments : (name : Name) (ts : List Kind) (ws : List (List ℕ)) (j : ℕ) (l : List ℕ) → j + length ts ≤ 4 → ((i : ℕ) → get_or ts i Reading ≡ get_or (form name).words (j + i) Reading)
     → HeldWords name l → HeldWords name (argument_values j ts ws l)
 unfolding argument_values argument
 held-arguments name [] ws j l d e h = h
 held-arguments name (t ∷ ts) [] j l d e h = h
 held-arguments name (t ∷ ts) (w ∷ ws) j l d e h =
     let v = given (argument t w) (λ n. n) 0 in
-    let k : t ≡ get_or (form name) j Reading = e 0 ∙ ap (λ (i : ℕ). get_or (form name) i Reading) (let z : j + 0 ≡ j = omega arith in z) in
-    let f : (i : ℕ) → get_or ts i Reading ≡ get_or (form name) (j + 1 + i) Reading =
-    λ i. e (suc i) ∙ ap (λ (x : ℕ). get_or (form name) x Reading) (let z : j + suc i ≡ j + 1 + i = omega arith in z) in
+    let k : t ≡ get_or (form name).words j Reading = e 0 ∙ ap (λ (i : ℕ). get_or (form name).words i Reading) (let z : j + 0 ≡ j = omega arith in z) in
+    let f : (i : ℕ) → get_or ts i Reading ≡ get_or (form name).words (j + 1 + i) Reading =
+    λ i. e (suc i) ∙ ap (λ (x : ℕ). get_or (form name).words x Reading) (let z : j + suc i ≡ j + 1 + i = omega arith in z) in
     held-arguments name ts ws (j + 1) (set l j v) (omega arith) f (held_word name l j v h (omega (arith, ap most k, up-to-most (most t) (argument_as t w))))
 
 -- ---- options
@@ -120,8 +123,8 @@ held-options from to (w ∷ ws) l o e h =
     let t = and-taken (took from to l w) (options_took from to (values_after l w) ws) e in
     held-options from to ws (values_after l w) o t.1 (held-option from to l w o t.0 h)
 
-pub held-form : (name : ℕ) (ws : List (List ℕ)) → HeldWords name (argument_values 0 (form name) ws unread_words)
-held-form name ws = held-arguments name (form name) ws 0 unread_words (omega (arith, four-words name)) (λ i. ap (λ (x : ℕ). get_or (form name) x Reading) (let z : i ≡ 0 + i = omega arith in z)) (held-unread name)
+pub held-form : (name : Name) (ws : List (List ℕ)) → HeldWords name (argument_values 0 (form name).words ws unread_words)
+held-form name ws = held-arguments name (form name).words ws 0 unread_words (omega (arith, four-words name)) (λ i. ap (λ (x : ℕ). get_or (form name).words x Reading) (let z : i ≡ 0 + i = omega arith in z)) (held-unread name)
 
 -- ---- what the limits give
 
@@ -133,28 +136,7 @@ or-else-most l key other b h o = go (get_or l key None) h
     go None h = o
     go (Some v) h = h
 
--- a number that stands in neither part of a list
-apart : (v : ℕ) (l : List ℕ) (n : ℕ) → v ≢ 0 → Each (λ x. x ≢ v) l → get_or l n 0 ≢ v
-apart v [] n z h e = z (sym e)
-apart v (x ∷ l) zero z h e = h.0 e
-apart v (x ∷ l) (suc n) z h e = apart v l n z h.1 e
-
--- stands at their seam alone
-at-seam : (v : ℕ) (a b : List ℕ) (n : ℕ) → v ≢ 0 → Each (λ x. x ≢ v) a → Each (λ x. x ≢ v) b → get_or (a ++ (v ∷ b)) n 0 ≡ v → n ≡ length a
-at-seam v [] b zero z h k e = refl
-at-seam v [] b (suc n) z h k e = absurd (apart v b n z k e)
-at-seam v (x ∷ a) b zero z h k e = absurd (h.0 e)
-at-seam v (x ∷ a) b (suc n) z h k e = ap suc (at-seam v a b n z h.1 k e)
-
--- a Take has one name
-is-take : (name : ℕ) → get_or kinds name 0 ≡ 3 → name ≡ take_name
-is-take name e =
-    at-seam 3 (0 ∷ 1 ∷ 2 ∷ 2 ∷ 2 ∷ []) (4 ∷ 5 ∷ 6 ∷ 7 ∷ 0 ∷ 0 ∷ 0 ∷ []) name (λ z. omega arith)
-    (λ z. omega arith, (λ z. omega arith, (λ z. omega arith, (λ z. omega arith, (λ z. omega arith, tt)))))
-    (λ z. omega arith, (λ z. omega arith, (λ z. omega arith, (λ z. omega arith, (λ z. omega arith, (λ z. omega arith, (λ z. omega arith, tt)))))))
-    e
-
-module _ (name : ℕ) (l : Values) (g : HeldWords name l.words) (h : HeldKeys l.keys) where
+module _ (name : Name) (l : Values) (g : HeldWords name l.words) (h : HeldKeys l.keys) where
   pub small : Small name l
   small = (
     λ e. let z = g.words 2 (omega arith) in omega (arith, rw e at z),
@@ -163,53 +145,21 @@ module _ (name : ℕ) (l : Values) (g : HeldWords name l.words) (h : HeldKeys l.
     omega (arith, or-else-most l.keys samples_key 238 65535 (h.options samples_key (omega arith)) (omega arith)),
   )
 
-  count_most : count_of name l ≤ most_octets
-  unfolding count_of
-  count_most =
-      pick-either _ _ _ (λ x. x ≤ most_octets)
-      (λ t. or-else-most l.keys length_key 1444 most_octets (h.options length_key (omega arith)) (omega arith))
-      (λ f. pick-either _ _ _ (λ x. x ≤ most_octets) (λ t. omega arith)
-      (λ u. pick-either _ _ _ (λ x. x ≤ most_octets)
-      (λ t. let z = g.words 3 (omega arith) in rw (eqb-true name datagram_name t) at z)
-      (λ k. omega arith)))
+  length-most : or_else l.keys length_key 1444 ≤ most_octets
+  length-most = or-else-most l.keys length_key 1444 most_octets (h.options length_key (omega arith)) (omega arith)
 
-  places-most : places_of name l ≤ 8192
-  unfolding places_of
-  places-most =
-      pick-either _ _ _ (λ x. x ≤ 8192)
-      (λ t. let z = g.words 1 (omega arith) in omega (arith, rw (eqb-true name take_name t) at z))
-      (λ f. or-else-most l.keys buffer_key (get_or buffers name 0) 8192 (h.options buffer_key (omega arith)) (omega (arith, get_or-under 8193 buffers (omega arith) tt name)))
+  buffer-most : or_else l.keys buffer_key (form name).buffer ≤ 8192
+  buffer-most = or-else-most l.keys buffer_key (form name).buffer 8192 (h.options buffer_key (omega arith)) (omega (arith, buffer-within name))
 
-  taken-most : get_or kinds name 0 ≡ 3 → places_of name l ≤ 1024
-  unfolding places_of
-  taken-most e =
-      let t = is-take name e in
-      let z = g.words 1 (omega arith) in
-      pick-either _ _ _ (λ x. x ≤ 1024) (λ _. omega (arith, rw t at z)) (λ f. absurd (eqb-false name take_name f t))
-
-  address-most : (ip : ℕ) → ip < 4294967296 → address_of name ip l ≤ 4294967296
-  unfolding address_of
-  address-most ip b =
-      pick-either _ _ _ (λ x. x ≤ 4294967296)
-      (λ t. let z = g.words 2 (omega arith) in omega (arith, rw (eqb-true name datagram_name t) at z))
-      (λ f. pick-either _ _ _ (λ x. x ≤ 4294967296) (λ t. omega arith) (λ g. pick-either _ _ _ (λ x. x ≤ 4294967296) (λ t. omega arith) (λ k. omega arith)))
-
-  port-most : (port : ℕ) → port_of name port l < 65536
-  unfolding port_of
-  port-most port =
-      pick-either _ _ _ (λ x. x < 65536) (λ t. omega arith)
-      (λ f. pick-either _ _ _ (λ x. x < 65536) (λ t. omega arith)
-      (λ g. pick-either _ _ _ (λ x. x < 65536) (λ t. omega arith) (λ k. omega arith)))
-
-  pub fit : (ip port : ℕ) → ip < 4294967296 → Fit (call_of name ip port l)
+  pub fit : (radio : Endpoint) → radio.ip < 4294967296 → Fit (call_of name radio l)
   unfolding call_of
-  fit ip port b =
+  fit radio b =
       record {
-        kind = omega (arith, get_or-under 8 kinds (omega arith) tt name);
-        address = address-most ip b;
-        port = port-most port;
-        octets = count_most;
+        kind = eight-kinds name;
+        address = let z = g.words 2 (omega arith) in search rules;
+        port = search rules;
+        octets = let z = g.words 3 (omega arith) in let y = length-most in search rules;
         waiting = h.options waiting_key (omega arith);
-        places = places-most;
-        taken = taken-most;
+        places = let z = g.words 1 (omega arith) in let y = buffer-most in search rules;
+        taken = λ e. let t = is-take name e in let z = g.words 1 (omega arith) in search rules;
       }

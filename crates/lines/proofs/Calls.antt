@@ -1,14 +1,15 @@
 -- A call by its name, and a line: what each way through gives. Assumes nothing.
 use mathlib.Core.Path.{◌≡◌, refl, sym, ap, ◌∙◌}
-use mathlib.Core.List.{List, ◌∷◌}
+use mathlib.Core.List.{List, []}
 use Prim.Native.Nat.{ℕ, ◌+◌, ◌≤◌, ◌<◌}
 use native.Mathlib.Omega.{arith}
-use borrow.Author.Tests.{lt-ltb, le-ltb, le-leb, lt-leb, eq-eqb, ne_eqb}
-use lib.ListN.{length, drop, get_or}
+use mathlib.Core.Bool.{true, false}
+use borrow.Author.Tests.{lt-ltb, le-ltb}
+use lib.ListN.{length}
 use Rattle.base.proofs.Picks.{pick-t, pick-f}
-use Rattle.text.specs.Name.{place}
-use Rattle.text.specs.Split.{words, part, WordAt}
-use Rattle.text.proofs.Splits.{no_word, one_word}
+use Rattle.text.specs.Split.{words}
+use Rattle.lines.specs.declared.Asked.{Asked}
+use Rattle.lines.specs.declared.Endpoint.{Endpoint}
 use Rattle.lines.specs.declared.Expected.{Expected}
 use Rattle.lines.specs.declared.Read.{Read}
 use Rattle.lines.specs.declared.call.Values.{Values}
@@ -16,11 +17,13 @@ use Rattle.std.specs.Prelude.{Option, Some, None, Ok, Err}
 use Rattle.lines.specs.declared.argument.Kind.{Kind}
 use Rattle.lines.specs.declared.option.Untaken.{Untaken}
 use Rattle.lines.specs.Key.{buffer_key, key_count, unread_words, unsaid}
-use Rattle.lines.specs.Name.{names, state_name, radio_name, open_name, name_count, ends, text_of}
-use Rattle.lines.specs.Argument.{form, unread, if_read, argument_octets, arguments_seen, Arguments}
+use Rattle.lines.specs.declared.name.Name.{Name}
+use Rattle.lines.specs.declared.name.Name.TheVariants.{Open}
+use Rattle.lines.specs.Name.{is, form, Begins}
+use Rattle.lines.specs.Argument.{unread, if_read, argument_octets, arguments_seen, Arguments}
 use Rattle.lines.specs.Option.{Took, Taken, expected_of, options_took, options_values, options_numbers, options_seen, Ran}
-use Rattle.lines.specs.Call.{Told, expected_word, worded, optioned, arguments_of, options_of, asked, read_named, read_words, words_of, longest, read_line, values_of, call_of, octets_of, on_call, named_seen, Named, name_of, after, of_named, of_line, octets_left, numbers_left, Lent}
-use Rattle.lines.proofs.Forms.{get_or-under}
+use Rattle.lines.specs.Call.{Told, expected_word, worded, optioned, arguments_of, options_of, asks, read_named, read_as, read_words, words_of, longest, read_line, values_of, call_of, octets_of, on_call, named_seen, Named, of_called, of_named, of_line, line_octets, line_numbers, Lent}
+use Rattle.lines.proofs.Forms.{keys-within}
 use Rattle.lines.proofs.Bounds.{HeldWords, HeldKeys, held-unsaid, held-options, held-form, fit}
 
 kept : (x : Told) → (x ≡ Ok Read.Call → ⊥) → (new other : List ℕ) → other ≡ on_call x new other
@@ -31,11 +34,18 @@ kept (Ok Read.State) f new other = refl
 kept (Ok Read.Radio) f new other = refl
 kept (Err x) f new other = refl
 
-module _ (name ip port : ℕ) (s b d n : List ℕ) (ws : List (List ℕ)) (r : Option Kind) (at : ℕ) (m e : List ℕ) (g : Arguments (form name) s unread_words d ws r at m e) where
-  pub not-read : (t : Kind) → r ≡ Some t → Named name ip port b d n ws (Err (expected_word t)) b e n
+ok-same : (r : Read) → ◌≡◌ {A = Told} (Ok r) (Ok Read.Call) → r ≡ Read.Call
+ok-same r e = cc
+
+module _ (name : Name) (radio : Endpoint) (lent : Asked) (ws : List (List ℕ)) (r : Option Kind) (left m e : List ℕ) (g : Arguments (form name).words unread_words lent.octets ws r left m e) where
+  -- what is lent, where a word or an option stops the reading
+  abbrev with : List ℕ → List ℕ → Asked
+  with d n = record { call = lent.call; octets = d; numbers = n }
+
+  pub not-read : (t : Kind) → r ≡ Some t → Named name radio lent ws (Err (expected_word t)) (with e lent.numbers)
   unfolding read_named worded named_seen if_read
   not-read t h =
-      let u : unread (form name) ws ≡ Some t = sym g.told ∙ h in
+      let u : unread (form name).words ws ≡ Some t = sym g.told ∙ h in
       record {
         told = rw u;
         call = refl;
@@ -44,28 +54,28 @@ module _ (name ip port : ℕ) (s b d n : List ℕ) (ws : List (List ℕ)) (r : O
         fit = λ q. let z : ◌≡◌ {A = ℕ} 0 1 = cc in absurd (omega arith);
       }
 
-  module _ (h : r ≡ None) (to : ℕ) (k : to ≡ get_or ends name 0) (q : Took) (m2 : List (Option ℕ)) (n2 : List ℕ) (o : Ran buffer_key to unsaid n (words (drop at s)) q m2 n2) where
+  module _ (h : r ≡ None) (to : ℕ) (k : to ≡ (form name).keys_end) (q : Took) (m2 : List (Option ℕ)) (n2 : List ℕ) (o : Ran buffer_key to unsaid lent.numbers (words left) q m2 n2) where
     values-here : m ≡ arguments_of name ws
     values-here = g.values h
 
-    told_here : optioned q Expected.End (asked name) ≡ read_named name ws
+    told_here : optioned q Expected.End (Ok (asks name)) ≡ read_named name ws
     unfolding read_named worded
     told_here =
-        ap (λ (x : Took). optioned x Expected.End (asked name))
+        ap (λ (x : Took). optioned x Expected.End (Ok (asks name)))
         (o.told
-        ∙ ap (λ (x : ℕ). options_took buffer_key x unsaid (words (drop at s))) k
-        ∙ ap (options_took buffer_key (get_or ends name 0) unsaid) (g.follows h))
-        ∙ sym (ap (λ (x : Option Kind). worded x (optioned (options_took buffer_key (get_or ends name 0) unsaid (options_of name ws)) Expected.End (asked name))) (sym g.told ∙ h))
+        ∙ ap (λ (x : ℕ). options_took buffer_key x unsaid (words left)) k
+        ∙ ap (options_took buffer_key (form name).keys_end unsaid) (g.follows h))
+        ∙ sym (ap (λ (x : Option Kind). worded x (optioned (options_took buffer_key (form name).keys_end unsaid (options_of name ws)) Expected.End (Ok (asks name)))) (sym g.told ∙ h))
 
-    seen_here : n2 ≡ named_seen name ws n
+    seen_here : n2 ≡ named_seen name ws lent.numbers
     unfolding named_seen if_read
     seen_here =
         o.seen
-        ∙ ap (λ (x : ℕ). options_seen buffer_key x unsaid n (words (drop at s))) k
-        ∙ ap (options_seen buffer_key (get_or ends name 0) unsaid n) (g.follows h)
-        ∙ sym (ap (λ (x : Option Kind). if_read x (options_seen buffer_key (get_or ends name 0) unsaid n (options_of name ws)) n) (sym g.told ∙ h))
+        ∙ ap (λ (x : ℕ). options_seen buffer_key x unsaid lent.numbers (words left)) k
+        ∙ ap (options_seen buffer_key (form name).keys_end unsaid lent.numbers) (g.follows h)
+        ∙ sym (ap (λ (x : Option Kind). if_read x (options_seen buffer_key (form name).keys_end unsaid lent.numbers (options_of name ws)) lent.numbers) (sym g.told ∙ h))
 
-    stopped : (x : Told) → (x ≡ Ok Read.Call → ⊥) → x ≡ read_named name ws → Named name ip port b d n ws x b e n2
+    stopped : (x : Told) → (x ≡ Ok Read.Call → ⊥) → x ≡ read_named name ws → Named name radio lent ws x (with e n2)
     stopped x f t =
         record {
           told = t;
@@ -75,22 +85,17 @@ module _ (name ip port : ℕ) (s b d n : List ℕ) (ws : List (List ℕ)) (r : O
           fit = λ q. absurd (f q);
         }
 
-    pub untaken : (x : Untaken) → q ≡ Err x → Named name ip port b d n ws (Err (expected_of x Expected.End)) b e n2
+    pub untaken : (x : Untaken) → q ≡ Err x → Named name radio lent ws (Err (expected_of x Expected.End)) (with e n2)
     unfolding optioned
     untaken x t = stopped _ (λ q. let z : ◌≡◌ {A = ℕ} 0 1 = cc in omega arith) (rw t at told_here)
 
     module _ (t : q ≡ Taken) where
-      named_here : asked name ≡ read_named name ws
+      named_here : Ok (asks name) ≡ read_named name ws
       unfolding optioned
       named_here = rw t at told_here
 
-      pub state : name ≡ state_name → Named name ip port b d n ws (Ok Read.State) b e n2
-      unfolding asked
-      state f = stopped _ (λ q. let z : ◌≡◌ {A = ℕ} 0 1 = cc in omega arith) (sym (pick-t _ _ _ (eq-eqb name state_name f)) ∙ named_here)
-
-      pub radio : (name ≡ state_name → ⊥) → name ≡ radio_name → Named name ip port b d n ws (Ok Read.Radio) b e n2
-      unfolding asked
-      radio f k = stopped _ (λ q. let z : ◌≡◌ {A = ℕ} 0 1 = cc in omega arith) (sym (pick-f _ _ _ (ne_eqb name state_name f) ∙ pick-t _ _ _ (eq-eqb name radio_name k)) ∙ named_here)
+      pub asked : (r : Read) → r ≡ asks name → (r ≡ Read.Call → ⊥) → Named name radio lent ws (Ok r) (with e n2)
+      asked r f k = stopped _ (λ v. k (ok-same r v)) (ap (λ (x : Read). Ok x) f ∙ named_here)
 
       abbrev said_here : Values
       said_here = record { words = m; keys = m2 }
@@ -106,110 +111,100 @@ module _ (name ip port : ℕ) (s b d n : List ℕ) (ws : List (List ℕ)) (r : O
 
       pub held-keys : HeldKeys m2
       held-keys =
-          let b : to ≤ key_count = omega (arith, get_or-under (key_count + 1) ends (omega arith) tt name) in
-          rw (o.values t) (held-options buffer_key to (words (drop at s)) unsaid b (sym o.told ∙ t) held-unsaid)
+          let b : to ≤ key_count = omega (arith, k, keys-within name) in
+          rw (o.values t) (held-options buffer_key to (words left) unsaid b (sym o.told ∙ t) held-unsaid)
 
-      pub done : (name ≡ state_name → ⊥) → (name ≡ radio_name → ⊥) → ip < 4294967296 → (c y : List ℕ) → c ≡ call_of name ip port said_here → y ≡ octets_of name said_here e → Named name ip port b d n ws (Ok Read.Call) c y n2
-      unfolding asked
-      done f v l c y p w =
+      pub done : asks name ≡ Read.Call → radio.ip < 4294967296 → (c y : List ℕ) → c ≡ call_of name radio said_here → y ≡ octets_of name said_here e → Named name radio lent ws (Ok Read.Call) (record { call = c; octets = y; numbers = n2 })
+      done f l c y p w =
           record {
-            told = sym (pick-f _ _ _ (ne_eqb name state_name f) ∙ pick-f _ _ _ (ne_eqb name radio_name v)) ∙ named_here;
-            call = p ∙ ap (call_of name ip port) values-then;
+            told = ap (λ (x : Read). Ok x) (sym f) ∙ named_here;
+            call = p ∙ ap (call_of name radio) values-then;
             octets = w ∙ ap (λ (x : Values). octets_of name x e) values-then ∙ ap (octets_of name (values_of name ws)) (g.octets h);
-            numbers = o.numbers t ∙ ap (options_numbers n) (g.follows h);
-            fit = λ q. rw p (fit name said_here held-words held-keys ip port l);
+            numbers = o.numbers t ∙ ap (options_numbers lent.numbers) (g.follows h);
+            fit = λ q. rw p (fit name said_here held-words held-keys radio l);
           }
 
 -- ---- a line
 
-module _ (line : List ℕ) (ip port : ℕ) (b d n : List ℕ) where
-  -- a line without the words of a call's name leaves every buffer as it was
-  no_call : (x : Told) → (x ≡ Ok Read.Call → ⊥) → x ≡ read_line line → ((f : ℕ → List (List ℕ) → List ℕ) (z : List ℕ) → z ≡ of_line f z line) → Lent line ip port b d n x b d n
+module _ (line : List ℕ) (radio : Endpoint) (lent : Asked) where
+  -- a line without the words of a call's name leaves what is lent as it was
+  no_call : (x : Told) → (x ≡ Ok Read.Call → ⊥) → x ≡ read_line line → ((f : Name → List (List ℕ) → List ℕ) (z : List ℕ) → z ≡ of_line f z line) → Lent line radio lent x lent
   no_call x f t u =
       record {
         told = t;
         call = kept x f _ _;
-        octets = u _ d ∙ kept x f _ _;
-        numbers = u _ n ∙ kept x f _ _;
+        octets = u _ lent.octets ∙ kept x f _ _;
+        numbers = u _ lent.numbers ∙ kept x f _ _;
         fit = λ q. absurd (f q);
       }
 
-  pub too_long : longest < length line → Lent line ip port b d n (Err Expected.ShorterLine) b d n
+  pub too_long : longest < length line → Lent line radio lent (Err Expected.ShorterLine) lent
   unfolding read_line of_line
   too_long h =
       no_call _ (λ q. let z : ◌≡◌ {A = ℕ} 0 1 = cc in omega arith) (sym (pick-t _ _ _ (lt-ltb _ _ h)))
       (λ f z. sym (pick-t _ _ _ (lt-ltb _ _ h)))
 
-  module _ (h : length line ≤ longest) (s : List ℕ) (q : s ≡ text_of line) (a z : ℕ) (w : WordAt s 0 a z) where
-    by-words : read_words (words s) ≡ read_line line
+  module _ (h : length line ≤ longest) where
+    by-words : read_words (words_of line) ≡ read_line line
     unfolding read_line
-    by-words = ap (λ (x : List ℕ). read_words (words x)) q ∙ sym (pick-f _ _ _ (le-ltb _ _ h))
+    by-words = sym (pick-f _ _ _ (le-ltb _ _ h))
 
-    of_words : (f : ℕ → List (List ℕ) → List ℕ) (y : List ℕ) → of_named f y (words s) ≡ of_line f y line
+    of_words : (f : Name → List (List ℕ) → List ℕ) (y : List ℕ) → of_named f y (words_of line) ≡ of_line f y line
     unfolding of_line
-    of_words f y = ap (λ (x : List ℕ). of_named f y (words x)) q ∙ sym (pick-f _ _ _ (le-ltb _ _ h))
+    of_words f y = sym (pick-f _ _ _ (le-ltb _ _ h))
 
-    pub nothing : a ≡ z → Lent line ip port b d n (Ok Read.Nothing) b d n
+    pub nothing : words_of line ≡ [] → Lent line radio lent (Ok Read.Nothing) lent
     unfolding read_words of_named
-    nothing f =
-        let o = no_word s 0 a z w f in
+    nothing o =
         no_call _ (λ q. let z : ◌≡◌ {A = ℕ} 0 1 = cc in omega arith) (ap read_words (sym o) ∙ by-words)
         (λ f y. ap (of_named f y) (sym o) ∙ of_words f y)
 
-    module _ (f : a ≡ z → ⊥) (name : ℕ) (k : name ≡ place (part s a z) names) where
-      first : words s ≡ part s a z ∷ words (drop z s)
-      first = one_word s 0 a z w f
+    module _ (word : List ℕ) (name : Option Name) (rest : List ℕ) (g : Begins line word name rest) where
+      by-name : read_as name (words rest) ≡ read_line line
+      unfolding read_words
+      by-name = ap (λ (x : Option Name). read_as x (words rest)) g.named ∙ ap read_words (sym g.reads) ∙ by-words
 
-      pub opens : name ≡ open_name → Lent line ip port b d n (Ok Read.Open) b d n
-      unfolding read_words of_named
-      opens v =
-          no_call _ (λ q. let z : ◌≡◌ {A = ℕ} 0 1 = cc in omega arith) (sym (pick-t _ _ _ (eq-eqb _ _ (sym k ∙ v))) ∙ ap read_words (sym first) ∙ by-words)
-          (λ f y. sym (pick-t _ _ _ (eq-eqb _ _ (sym k ∙ v))) ∙ ap (of_named f y) (sym first) ∙ of_words f y)
+      of_name : (f : Name → List (List ℕ) → List ℕ) (y : List ℕ) → of_called f y name (words rest) ≡ of_line f y line
+      unfolding of_named
+      of_name f y = ap (λ (x : Option Name). of_called f y x (words rest)) g.named ∙ ap (of_named f y) (sym g.reads) ∙ of_words f y
 
-      pub not-a-call : name_count ≤ name → Lent line ip port b d n (Err Expected.Call) b d n
-      unfolding read_words of_named
+      pub not-a-call : name ≡ None → Lent line radio lent (Err Expected.Call) lent
+      unfolding read_as of_called
       not-a-call v =
-          let o = ne_eqb (place (part s a z) names) open_name (λ t. omega arith) in
-          let p = le-leb name_count (place (part s a z) names) (omega arith) in
-          no_call _ (λ q. let z : ◌≡◌ {A = ℕ} 0 1 = cc in omega arith)
-          (sym (pick-f _ _ _ o ∙ pick-t _ _ _ p) ∙ ap read_words (sym first) ∙ by-words)
-          (λ f y. sym (pick-f _ _ _ o ∙ pick-t _ _ _ p) ∙ ap (of_named f y) (sym first) ∙ of_words f y)
+          no_call _ (λ q. let z : ◌≡◌ {A = ℕ} 0 1 = cc in omega arith) (rw v at by-name) (λ f y. ap (λ (x : Option Name). of_called f y x (words rest)) (sym v) ∙ of_name f y)
 
-      module _ (o : name ≡ open_name → ⊥) (l : name < name_count) where
-        of-called : (f : ℕ → List (List ℕ) → List ℕ) (y : List ℕ) → f name (words (drop z s)) ≡ of_line f y line
-        unfolding of_named
-        of-called f y =
-            ap (λ (i : ℕ). f i (words (drop z s))) k
-            ∙ sym (pick-f _ _ _ (ne_eqb (place (part s a z) names) open_name (λ v. o (k ∙ v))) ∙ pick-f _ _ _ (lt-leb name_count (place (part s a z) names) (omega arith)))
-            ∙ ap (of_named f y) (sym first)
-            ∙ of_words f y
+      module _ (call : Name) (v : name ≡ Some call) where
+        of_call : (f : Name → List (List ℕ) → List ℕ) (y : List ℕ) → of_called f y (Some call) (words rest) ≡ of_line f y line
+        of_call f y = ap (λ (x : Option Name). of_called f y x (words rest)) (sym v) ∙ of_name f y
 
-        pub called : (r : Told) (c e m : List ℕ) → Named name ip port b d n (words (drop z s)) r c e m → Lent line ip port b d n r c e m
-        unfolding read_words
-        called r c e m v =
-            let ws : words_of line ≡ part s a z ∷ words (drop z s) = ap words (sym q) ∙ first in
-            let x : name ≡ name_of (words_of line) = k ∙ ap name_of (sym ws) in
-            let y : words (drop z s) ≡ after (words_of line) = ap after (sym ws) in
-            record {
-              told =
-                  v.told
-                  ∙ ap (λ (i : ℕ). read_named i (words (drop z s))) k
-                  ∙ sym (pick-f _ _ _ (ne_eqb (place (part s a z) names) open_name (λ v. o (k ∙ v))) ∙ pick-f _ _ _ (lt-leb name_count (place (part s a z) names) (omega arith)))
-                  ∙ ap read_words (sym first)
-                  ∙ by-words;
-              call =
-                  v.call
-                  ∙ ap (λ (i : ℕ). on_call r (call_of i ip port (values_of i (words (drop z s)))) b) x
-                  ∙ ap (λ (i : List (List ℕ)). on_call r (call_of (name_of (words_of line)) ip port (values_of (name_of (words_of line)) i)) b) y;
-              octets =
-                  v.octets
-                  ∙ ap (on_call r (octets_of name (values_of name (words (drop z s))) (argument_octets (form name) (words (drop z s)) d))) (of-called (λ i vs. arguments_seen (form i) vs d) d)
-                  ∙ ap (λ (i : ℕ). on_call r (octets_of i (values_of i (words (drop z s))) (argument_octets (form i) (words (drop z s)) d)) (octets_left line d)) x
-                  ∙ ap (λ (i : List (List ℕ)). on_call r (octets_of (name_of (words_of line)) (values_of (name_of (words_of line)) i) (argument_octets (form (name_of (words_of line))) i d)) (octets_left line d)) y;
-              numbers =
-                  v.numbers
-                  ∙ ap (on_call r (options_numbers n (options_of name (words (drop z s))))) (of-called (λ i vs. named_seen i vs n) n)
-                  ∙ ap (λ (i : ℕ). on_call r (options_numbers n (options_of i (words (drop z s)))) (numbers_left line n)) x
-                  ∙ ap (λ (i : List (List ℕ)). on_call r (options_numbers n (options_of (name_of (words_of line)) i)) (numbers_left line n)) y;
-              fit = v.fit;
-            }
+        pub opens : is call Open ≡ true → Lent line radio lent (Ok Read.Open) lent
+        unfolding read_as of_called
+        opens y =
+            no_call _ (λ q. let z : ◌≡◌ {A = ℕ} 0 1 = cc in omega arith)
+            (sym (pick-t _ _ _ y) ∙ ap (λ (x : Option Name). read_as x (words rest)) (sym v) ∙ by-name)
+            (λ f u. sym (pick-t _ _ _ y) ∙ of_call f u)
+
+        module _ (o : is call Open ≡ false) where
+          of-this : (f : Name → List (List ℕ) → List ℕ) (y : List ℕ) → f call (words rest) ≡ of_line f y line
+          unfolding of_called
+          of-this f y = sym (pick-f _ _ _ o) ∙ of_call f y
+
+          pub called : (r : Told) (c : Asked) → Named call radio lent (words rest) r c → Lent line radio lent r c
+          unfolding read_as
+          called r c t =
+              let ws = words rest in
+              let d = lent.octets in
+              let n = lent.numbers in
+              record {
+                told = t.told ∙ sym (pick-f _ _ _ o) ∙ ap (λ (x : Option Name). read_as x ws) (sym v) ∙ by-name;
+                call = t.call ∙ ap (λ (x : List ℕ). on_call r x lent.call) (of-this (λ i vs. call_of i radio (values_of i vs)) []);
+                octets =
+                    t.octets
+                    ∙ ap (λ (x : List ℕ). on_call r x (arguments_seen (form call).words ws d)) (of-this (λ i vs. octets_of i (values_of i vs) (argument_octets (form i).words vs d)) d)
+                    ∙ ap (on_call r (line_octets line d)) (of-this (λ i vs. arguments_seen (form i).words vs d) d);
+                numbers =
+                    t.numbers
+                    ∙ ap (λ (x : List ℕ). on_call r x (named_seen call ws n)) (of-this (λ i vs. options_numbers n (options_of i vs)) n)
+                    ∙ ap (on_call r (line_numbers line n)) (of-this (λ i vs. named_seen i vs n) n);
+                fit = t.fit;
+              }

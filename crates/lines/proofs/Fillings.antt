@@ -8,11 +8,10 @@ use native.Mathlib.Omega.{arith}
 use lib.ListN.{length, drop, get_or, set, length-set, drop_of_length-le}
 use lib.Seq.{drop-cons}
 use Rattle.octets.specs.Written.{written}
-use Rattle.text.specs.Split.{words, part, WordAt}
+use Rattle.text.specs.Split.{words, FirstWord}
 use Rattle.std.specs.Prelude.{Some, None}
 use Rattle.lines.specs.declared.argument.Kind.{Kind}
 use Rattle.lines.specs.declared.argument.Kind.TheVariants.{Reading, Number, Octet, Places, Sender, Octets}
-use Rattle.text.proofs.Splits.{no_word, one_word}
 use Rattle.lines.specs.Key.{most_octets}
 use Rattle.lines.specs.Argument.{argument_as, argument, of_octets, octets_as, octets_seen_as, unread, argument_values, argument_octets, arguments_seen, arguments_rest, Arguments}
 use Rattle.values.specs.Octets.{octet_count}
@@ -33,22 +32,20 @@ seen-whole Octets w d v e = ap (written d 0) (seen-octets w v (up-to-number most
 -- ---- word by word
 
 -- the first j words of the form are read, and have left m and n
-pub record Filling (ts : List Kind) (s l d : List ℕ) (start at j : ℕ) (m n : List ℕ) : Type 0 where
-  pub within : at ≤ length s
+pub record Filling (ts : List Kind) (s l d left : List ℕ) (j : ℕ) (m n : List ℕ) : Type 0 where
   pub most : j ≤ length ts
   pub as_long : length m ≡ length l
   pub as_many : length n ≡ length d
-  pub told : unread (drop j ts) (words (drop at s)) ≡ unread ts (words (drop start s))
-  pub values : argument_values j (drop j ts) (words (drop at s)) m ≡ argument_values 0 ts (words (drop start s)) l
-  pub octets : argument_octets (drop j ts) (words (drop at s)) n ≡ argument_octets ts (words (drop start s)) d
-  pub seen : arguments_seen (drop j ts) (words (drop at s)) n ≡ arguments_seen ts (words (drop start s)) d
-  pub follows : drop (length ts - j) (words (drop at s)) ≡ drop (length ts) (words (drop start s))
-  pub rest : arguments_rest (drop j ts) (words (drop at s)) ≡ arguments_rest ts (words (drop start s))
+  pub told : unread (drop j ts) (words left) ≡ unread ts (words s)
+  pub values : argument_values j (drop j ts) (words left) m ≡ argument_values 0 ts (words s) l
+  pub octets : argument_octets (drop j ts) (words left) n ≡ argument_octets ts (words s) d
+  pub seen : arguments_seen (drop j ts) (words left) n ≡ arguments_seen ts (words s) d
+  pub follows : drop (length ts - j) (words left) ≡ drop (length ts) (words s)
+  pub rest : arguments_rest (drop j ts) (words left) ≡ arguments_rest ts (words s)
 
-pub filling : (ts : List Kind) (s l d : List ℕ) (start : ℕ) → start ≤ length s → Filling ts s l d start start 0 l d
-filling ts s l d start h =
+pub filling : (ts : List Kind) (s l d : List ℕ) → Filling ts s l d s 0 l d
+filling ts s l d =
     record {
-      within = h;
       most = omega arith;
       as_long = refl;
       as_many = refl;
@@ -60,32 +57,30 @@ filling ts s l d start h =
       rest = refl;
     }
 
-module _ (ts : List Kind) (s l d : List ℕ) (start at j : ℕ) (m n : List ℕ) (i : Filling ts s l d start at j m n) where
-  pub filled : length ts ≤ j → Arguments ts s l d (words (drop start s)) None at m n
+module _ (ts : List Kind) (s l d left : List ℕ) (j : ℕ) (m n : List ℕ) (i : Filling ts s l d left j m n) where
+  pub filled : length ts ≤ j → Arguments ts l d (words s) None left m n
   unfolding unread argument_values argument_octets arguments_seen arguments_rest
   filled h =
       let z = drop_of_length-le ts {i = j} h in
       let k : length ts - j ≡ 0 = omega arith in
       record {
-        told = sym (ap (λ (x : List Kind). unread x (words (drop at s))) z) ∙ i.told;
-        within = i.within;
-        values = λ t. sym (ap (λ (x : List Kind). argument_values j x (words (drop at s)) m) z) ∙ i.values;
-        octets = λ t. sym (ap (λ (x : List Kind). argument_octets x (words (drop at s)) n) z) ∙ i.octets;
-        seen = sym (ap (λ (x : List Kind). arguments_seen x (words (drop at s)) n) z) ∙ i.seen;
-        follows = λ t. sym (ap (λ (x : ℕ). drop x (words (drop at s))) k) ∙ i.follows;
-        rest = sym (ap (λ (x : List Kind). arguments_rest x (words (drop at s))) z) ∙ i.rest;
+        told = sym (ap (λ (x : List Kind). unread x (words left)) z) ∙ i.told;
+        values = λ t. sym (ap (λ (x : List Kind). argument_values j x (words left) m) z) ∙ i.values;
+        octets = λ t. sym (ap (λ (x : List Kind). argument_octets x (words left) n) z) ∙ i.octets;
+        seen = sym (ap (λ (x : List Kind). arguments_seen x (words left) n) z) ∙ i.seen;
+        follows = λ t. sym (ap (λ (x : ℕ). drop x (words left)) k) ∙ i.follows;
+        rest = sym (ap (λ (x : List Kind). arguments_rest x (words left)) z) ∙ i.rest;
       }
 
-  module _ (h : j < length ts) (t : Kind) (k : t ≡ get_or ts j Reading) (a e : ℕ) (w : WordAt s at a e) where
+  module _ (h : j < length ts) (t : Kind) (k : t ≡ get_or ts j Reading) where
     next : drop j ts ≡ t ∷ drop (suc j) ts
     next = drop-cons ts j Reading h ∙ ap (λ (x : Kind). x ∷ drop (suc j) ts) (sym k)
 
-    unread-here : (x y : List ℕ) → Some t ≡ unread ts (words (drop start s)) → words (drop at s) ≡ arguments_rest ts (words (drop start s))
-        → y ≡ arguments_seen ts (words (drop start s)) d → Arguments ts s l d (words (drop start s)) (Some t) at x y
+    unread-here : (x y : List ℕ) → Some t ≡ unread ts (words s) → words left ≡ arguments_rest ts (words s)
+        → y ≡ arguments_seen ts (words s) d → Arguments ts l d (words s) (Some t) left x y
     unread-here x y q v u =
         record {
           told = q;
-          within = i.within;
           values = λ z. let z : ◌≡◌ {A = ℕ} 0 1 = cc in absurd (omega arith);
           octets = λ z. let z : ◌≡◌ {A = ℕ} 0 1 = cc in absurd (omega arith);
           seen = u;
@@ -93,73 +88,69 @@ module _ (ts : List Kind) (s l d : List ℕ) (start at j : ℕ) (m n : List ℕ)
           rest = v;
         }
 
-    pub not_there : a ≡ e → Arguments ts s l d (words (drop start s)) (Some t) at m n
+    pub not_there : words left ≡ [] → Arguments ts l d (words s) (Some t) left m n
     unfolding unread arguments_seen arguments_rest
-    not_there z =
-        let o = no_word s at a e w z in
+    not_there o =
         unread-here m n (sym (ap (λ (x : List Kind). unread x []) next) ∙ ap (unread (drop j ts)) (sym o) ∙ i.told)
         (o ∙ sym (ap (λ (x : List Kind). arguments_rest x []) next) ∙ ap (arguments_rest (drop j ts)) (sym o) ∙ i.rest)
         (sym (ap (λ (x : List Kind). arguments_seen x [] n) next) ∙ ap (λ (x : List (List ℕ)). arguments_seen (drop j ts) x n) (sym o) ∙ i.seen)
 
-    module _ (z : a ≡ e → ⊥) where
-      told-next : unread (t ∷ drop (suc j) ts) (part s a e ∷ words (drop e s)) ≡ unread ts (words (drop start s))
+    module _ (word rest : List ℕ) (f : FirstWord left word rest) where
+      told-next : unread (t ∷ drop (suc j) ts) (word ∷ words rest) ≡ unread ts (words s)
       told-next =
-          ap (λ (x : List Kind). unread x (part s a e ∷ words (drop e s))) (sym next)
-          ∙ ap (unread (drop j ts)) (sym (one_word s at a e w z))
+          ap (λ (x : List Kind). unread x (word ∷ words rest)) (sym next)
+          ∙ ap (unread (drop j ts)) (sym f.reads)
           ∙ i.told
 
-      rest-next : arguments_rest (t ∷ drop (suc j) ts) (part s a e ∷ words (drop e s)) ≡ arguments_rest ts (words (drop start s))
+      rest-next : arguments_rest (t ∷ drop (suc j) ts) (word ∷ words rest) ≡ arguments_rest ts (words s)
       rest-next =
-          ap (λ (x : List Kind). arguments_rest x (part s a e ∷ words (drop e s))) (sym next)
-          ∙ ap (arguments_rest (drop j ts)) (sym (one_word s at a e w z))
+          ap (λ (x : List Kind). arguments_rest x (word ∷ words rest)) (sym next)
+          ∙ ap (arguments_rest (drop j ts)) (sym f.reads)
           ∙ i.rest
 
-      seen_next : arguments_seen (t ∷ drop (suc j) ts) (part s a e ∷ words (drop e s)) n ≡ arguments_seen ts (words (drop start s)) d
+      seen_next : arguments_seen (t ∷ drop (suc j) ts) (word ∷ words rest) n ≡ arguments_seen ts (words s) d
       seen_next =
-          ap (λ (x : List Kind). arguments_seen x (part s a e ∷ words (drop e s)) n) (sym next)
-          ∙ ap (λ (x : List (List ℕ)). arguments_seen (drop j ts) x n) (sym (one_word s at a e w z))
+          ap (λ (x : List Kind). arguments_seen x (word ∷ words rest) n) (sym next)
+          ∙ ap (λ (x : List (List ℕ)). arguments_seen (drop j ts) x n) (sym f.reads)
           ∙ i.seen
 
-      pub not-read : (p : List ℕ) → argument t (part s a e) ≡ None → p ≡ octets_seen_as t (part s a e) n → Arguments ts s l d (words (drop start s)) (Some t) at m p
+      pub not-read : (p : List ℕ) → argument t word ≡ None → p ≡ octets_seen_as t word n → Arguments ts l d (words s) (Some t) left m p
       unfolding unread arguments_seen arguments_rest
       not-read p r q =
-          unread-here m p (sym (given-no _ _ _ r) ∙ told-next) (one_word s at a e w z ∙ sym (given-no _ _ _ r) ∙ rest-next)
+          unread-here m p (sym (given-no _ _ _ r) ∙ told-next) (f.reads ∙ sym (given-no _ _ _ r) ∙ rest-next)
           (q ∙ sym (given-no _ _ _ r) ∙ seen_next)
 
-      pub read-on : (v : ℕ) (p : List ℕ) → argument t (part s a e) ≡ Some v → p ≡ octets_seen_as t (part s a e) n → length p ≡ length n → Filling ts s l d start e (j + 1) (set m j v) p
+      pub read-on : (v : ℕ) (p : List ℕ) → argument t word ≡ Some v → p ≡ octets_seen_as t word n → length p ≡ length n → Filling ts s l d rest (j + 1) (set m j v) p
       unfolding unread argument_values argument_octets arguments_seen arguments_rest
       read-on v p r q y =
-          let o = one_word s at a e w z in
+          let o = f.reads in
           let up : drop (j + 1) ts ≡ drop (suc j) ts = ap (λ (f : ℕ). drop f ts) (add-one j) in
-          let f : j + 1 ≡ j + 1 = refl in
           let g : length ts - j ≡ suc (length ts - (j + 1)) = omega arith in
           record {
-            within = w.within;
             most = omega arith;
             as_long = length-set m j v ∙ i.as_long;
             as_many = y ∙ i.as_many;
-            told = ap (λ (f : List Kind). unread f (words (drop e s))) up ∙ sym (given_yes _ _ _ v r) ∙ told-next;
+            told = ap (λ (f : List Kind). unread f (words rest)) up ∙ sym (given_yes _ _ _ v r) ∙ told-next;
             values =
-                ap (λ (c : List Kind). argument_values (j + 1) c (words (drop e s)) (set m j v)) up
-                ∙ ap (λ (c : ℕ). argument_values c (drop (suc j) ts) (words (drop e s)) (set m j v)) f
-                ∙ ap (λ (c : ℕ). argument_values (j + 1) (drop (suc j) ts) (words (drop e s)) (set m j c)) (sym (given_yes _ (λ (c : ℕ). c) 0 v r))
-                ∙ ap (λ (c : List Kind). argument_values j c (part s a e ∷ words (drop e s)) m) (sym next)
+                ap (λ (c : List Kind). argument_values (j + 1) c (words rest) (set m j v)) up
+                ∙ ap (λ (c : ℕ). argument_values (j + 1) (drop (suc j) ts) (words rest) (set m j c)) (sym (given_yes _ (λ (c : ℕ). c) 0 v r))
+                ∙ ap (λ (c : List Kind). argument_values j c (word ∷ words rest) m) (sym next)
                 ∙ ap (λ (c : List (List ℕ)). argument_values j (drop j ts) c m) (sym o)
                 ∙ i.values;
             octets =
-                ap (λ (c : List Kind). argument_octets c (words (drop e s)) p) up
-                ∙ ap (argument_octets (drop (suc j) ts) (words (drop e s))) (q ∙ seen-whole t (part s a e) n v r)
-                ∙ ap (λ (c : List Kind). argument_octets c (part s a e ∷ words (drop e s)) n) (sym next)
+                ap (λ (c : List Kind). argument_octets c (words rest) p) up
+                ∙ ap (argument_octets (drop (suc j) ts) (words rest)) (q ∙ seen-whole t word n v r)
+                ∙ ap (λ (c : List Kind). argument_octets c (word ∷ words rest) n) (sym next)
                 ∙ ap (λ (c : List (List ℕ)). argument_octets (drop j ts) c n) (sym o)
                 ∙ i.octets;
             seen =
-                ap (λ (c : List Kind). arguments_seen c (words (drop e s)) p) up
-                ∙ ap (arguments_seen (drop (suc j) ts) (words (drop e s))) q
+                ap (λ (c : List Kind). arguments_seen c (words rest) p) up
+                ∙ ap (arguments_seen (drop (suc j) ts) (words rest)) q
                 ∙ sym (given_yes _ _ _ v r)
                 ∙ seen_next;
             follows =
-                ap (λ (c : ℕ). drop c (part s a e ∷ words (drop e s))) (sym g)
+                ap (λ (c : ℕ). drop c (word ∷ words rest)) (sym g)
                 ∙ ap (drop (length ts - j)) (sym o)
                 ∙ i.follows;
-            rest = ap (λ (f : List Kind). arguments_rest f (words (drop e s))) up ∙ sym (given_yes _ _ _ v r) ∙ rest-next;
+            rest = ap (λ (f : List Kind). arguments_rest f (words rest)) up ∙ sym (given_yes _ _ _ v r) ∙ rest-next;
           }

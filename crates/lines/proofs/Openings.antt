@@ -1,27 +1,27 @@
 -- `open`: patterns of doubles, and what each way through gives. Assumes nothing.
 use mathlib.Core.Path.{◌≡◌, refl, sym, ap, ◌∙◌}
-use mathlib.Core.Bool.{true, not}
-use mathlib.Core.List.{List}
+use mathlib.Core.Bool.{true, false, not}
+use mathlib.Core.List.{List, []}
 use Prim.Native.Nat.{ℕ, ◌%◌, ◌≤◌, ◌<◌}
 use native.Mathlib.Omega.{arith}
-use borrow.Author.Tests.{lt-ltb, le-ltb, eq-eqb, ne_eqb}
+use borrow.Author.Tests.{lt-ltb, le-ltb}
 use lib.Dec.{T}
 use lib.Ieee.{Float, nan, inf, fin, binary64, of_int, of_bits, to_bits, is_nan, nan_bits, div, round}
 use lib.Ieee.Bits.{nan_bits_is, nan_bits_above}
-use lib.ListN.{length, drop}
+use lib.ListN.{length}
 use Rattle.base.proofs.Picks.{pick-t, pick-f}
-use Rattle.text.specs.Name.{place}
-use Rattle.text.specs.Split.{words, part, WordAt}
-use Rattle.text.proofs.Splits.{no_word, one_word}
+use Rattle.text.specs.Split.{words}
 use Rattle.lines.specs.declared.Expected.TheVariants as Expected
 use Rattle.lines.specs.declared.Opening.{Opening}
-use Rattle.std.specs.Prelude.{Option, Ok, Err}
+use Rattle.std.specs.Prelude.{Option, Some, None, Ok, Err}
 use Rattle.lines.specs.declared.option.Untaken.{Untaken}
 use Rattle.lines.specs.Key.{at_key, settings, key_count, unsaid}
-use Rattle.lines.specs.Name.{names, open_name, text_of}
+use Rattle.lines.specs.declared.name.Name.{Name}
+use Rattle.lines.specs.declared.name.Name.TheVariants.{Open}
+use Rattle.lines.specs.Name.{is, text_of, Begins}
 use Rattle.lines.specs.Option.{Took, Taken, expected_of, options_took, options_values, Ran}
 use Rattle.lines.specs.Call.{longest, or_else}
-use Rattle.lines.specs.Open.{bits_of, settings_of, Within, unread_opening, opened, opened_by, open_words, opening_of}
+use Rattle.lines.specs.Open.{bits_of, settings_of, Within, unread_opening, opened, opened_by, open_as, open_words, opening_of}
 use Rattle.lines.proofs.Bounds.{held-unsaid, held-options}
 
 -- ---- doubles
@@ -82,20 +82,32 @@ module _ (line : List ℕ) where
   unfolding opening_of
   too_long h = sym (pick-t _ _ _ (lt-ltb _ _ h))
 
-  module _ (h : length line ≤ longest) (s : List ℕ) (q : s ≡ text_of line) (a z : ℕ) (w : WordAt s 0 a z) where
-    by-words : open_words (words s) ≡ opening_of line
+  module _ (h : length line ≤ longest) where
+    by-words : open_words (words (text_of line)) ≡ opening_of line
     unfolding opening_of
-    by-words = ap (λ (x : List ℕ). open_words (words x)) q ∙ sym (pick-f _ _ _ (le-ltb _ _ h))
+    by-words = sym (pick-f _ _ _ (le-ltb _ _ h))
 
-    pub no_words : a ≡ z → unread_opening Expected.Open ≡ opening_of line
+    pub no_words : words (text_of line) ≡ [] → unread_opening Expected.Open ≡ opening_of line
     unfolding open_words
-    no_words f = ap open_words (sym (no_word s 0 a z w f)) ∙ by-words
+    no_words o = ap open_words (sym o) ∙ by-words
 
-    module _ (f : a ≡ z → ⊥) (name : ℕ) (k : name ≡ place (part s a z) names) where
-      pub not-open : (name ≡ open_name → ⊥) → unread_opening Expected.Open ≡ opening_of line
+    module _ (word : List ℕ) (name : Option Name) (rest : List ℕ) (g : Begins line word name rest) where
+      by-name : open_as name (words rest) ≡ opening_of line
       unfolding open_words
-      not-open b = sym (pick-f _ _ _ (ne_eqb _ _ (λ e. b (k ∙ e)))) ∙ ap open_words (sym (one_word s 0 a z w f)) ∙ by-words
+      by-name = ap (λ (x : Option Name). open_as x (words rest)) g.named ∙ ap open_words (sym g.reads) ∙ by-words
 
-      pub is_open : name ≡ open_name → opened_by (words (drop z s)) ≡ opening_of line
-      unfolding open_words
-      is_open b = sym (pick-t _ _ _ (eq-eqb _ _ (sym k ∙ b))) ∙ ap open_words (sym (one_word s 0 a z w f)) ∙ by-words
+      pub no_name : name ≡ None → unread_opening Expected.Open ≡ opening_of line
+      unfolding open_as
+      no_name b = rw b at by-name
+
+      module _ (call : Name) (v : name ≡ Some call) where
+        by-call : open_as (Some call) (words rest) ≡ opening_of line
+        by-call = rw v at by-name
+
+        pub is_open : is call Open ≡ true → opened_by (words rest) ≡ opening_of line
+        unfolding open_as
+        is_open b = sym (pick-t _ _ _ b) ∙ by-call
+
+        pub not-open : is call Open ≡ false → unread_opening Expected.Open ≡ opening_of line
+        unfolding open_as
+        not-open b = sym (pick-f _ _ _ b) ∙ by-call

@@ -1,6 +1,6 @@
 -- Options: what each way through a word gives, and a run of words. Assumes nothing.
 use mathlib.Core.Path.{◌≡◌, refl, sym, ap, ◌∙◌}
-use mathlib.Core.List.{List, ◌∷◌}
+use mathlib.Core.List.{List, [], ◌∷◌}
 use Prim.Native.Nat.{ℕ, ◌≤◌, ◌<◌}
 use native.Mathlib.Omega.{arith}
 use borrow.Author.Tests.{lt-ltb, le-ltb, le-leb, lt-leb}
@@ -10,14 +10,13 @@ use Rattle.lines.specs.Key.{key_count}
 use lib.ListN.{length, drop, get_or, set}
 use Rattle.base.proofs.Picks.{pick-t, pick-f}
 use Rattle.octets.specs.Written.{written}
-use Rattle.text.specs.Split.{words, part, WordAt}
+use Rattle.text.specs.Split.{words, FirstWord}
 use Rattle.std.specs.Prelude.{is_some, is_err, Option, Some, None, Ok, Err}
-use Rattle.text.proofs.Splits.{no_word, one_word}
 use Rattle.lines.specs.declared.option.Spelling.{Spelling}
 use Rattle.lines.specs.declared.option.Spelling.TheVariants.{Number, Reading, Double, Address, Board, Attenuation, Waiting}
 use Rattle.lines.specs.declared.option.Untaken.{Untaken}
 use Rattle.lines.specs.declared.option.Untaken.TheVariants.{Unknown, Unreadable}
-use Rattle.lines.specs.Option.{Took, Taken, of_waiting, spellings, limits, spelt_as, numbers_as, numbers_seen_as, numbers_seen_for, key_at, value_at, equals_in, took_key, values_key, took, values_after, numbers_after, if_known, numbers_seen, value_of, numbers_for, Stepped, and_then, options_took, options_values, options_numbers, stopped, options_seen, options_rest, Ran, Stopped}
+use Rattle.lines.specs.Option.{Took, Taken, of_waiting, spellings, limits, spelt_as, numbers_as, numbers_seen_as, numbers_seen_for, key_at, value_at, equals_in, took_key, values_key, took, values_after, numbers_after, if_known, numbers_seen, value_of, numbers_for, Stepped, and_then, options_took, options_values, options_numbers, stopped, options_seen, options_rest, Ran}
 use Rattle.values.proofs.Values.{given-no, given_yes, up-to-number}
 use Rattle.values.proofs.Spans.{seen-numbers}
 
@@ -137,25 +136,23 @@ was-taken (Err x) e = cc
 
 -- ---- a run of words
 
--- the words before at were taken, and have left m and n
-pub record Running (from to : ℕ) (s : List ℕ) (l : List (Option ℕ)) (d : List ℕ) (start at : ℕ) (m : List (Option ℕ)) (n : List ℕ) : Type 0 where
-  pub within : at ≤ length s
+-- the words before what is left were taken, and have left m and n
+pub record Running (from to : ℕ) (s : List ℕ) (l : List (Option ℕ)) (d left : List ℕ) (m : List (Option ℕ)) (n : List ℕ) : Type 0 where
   pub as_long : length m ≡ length l
   pub as_many : length n ≡ length d
-  pub told : options_took from to m (words (drop at s)) ≡ options_took from to l (words (drop start s))
-  pub values : options_values m (words (drop at s)) ≡ options_values l (words (drop start s))
-  pub numbers : options_numbers n (words (drop at s)) ≡ options_numbers d (words (drop start s))
-  pub seen : options_seen from to m n (words (drop at s)) ≡ options_seen from to l d (words (drop start s))
-  pub rest : options_rest from to m (words (drop at s)) ≡ options_rest from to l (words (drop start s))
+  pub told : options_took from to m (words left) ≡ options_took from to l (words s)
+  pub values : options_values m (words left) ≡ options_values l (words s)
+  pub numbers : options_numbers n (words left) ≡ options_numbers d (words s)
+  pub seen : options_seen from to m n (words left) ≡ options_seen from to l d (words s)
+  pub rest : options_rest from to m (words left) ≡ options_rest from to l (words s)
 
-pub running : (from to : ℕ) (s : List ℕ) (l : List (Option ℕ)) (d : List ℕ) (start : ℕ) → start ≤ length s → Running from to s l d start start l d
-running from to s l d start h = record { within = h; as_long = refl; as_many = refl; told = refl; values = refl; numbers = refl; seen = refl; rest = refl }
+pub running : (from to : ℕ) (s : List ℕ) (l : List (Option ℕ)) (d : List ℕ) → Running from to s l d s l d
+running from to s l d = record { as_long = refl; as_many = refl; told = refl; values = refl; numbers = refl; seen = refl; rest = refl }
 
-module _ (from to : ℕ) (s : List ℕ) (l : List (Option ℕ)) (d : List ℕ) (start at : ℕ) (m : List (Option ℕ)) (n : List ℕ) (i : Running from to s l d start at m n) (a e : ℕ) (w : WordAt s at a e) where
-  pub no_more : a ≡ e → Ran from to l d (words (drop start s)) Taken m n
+module _ (from to : ℕ) (s : List ℕ) (l : List (Option ℕ)) (d left : List ℕ) (m : List (Option ℕ)) (n : List ℕ) (i : Running from to s l d left m n) where
+  pub no_more : words left ≡ [] → Ran from to l d (words s) Taken m n
   unfolding options_took options_values options_numbers options_seen
-  no_more z =
-      let q = no_word s at a e w z in
+  no_more q =
       record {
         told = sym (ap (options_took from to m) q) ∙ i.told;
         values = λ t. sym (ap (options_values m) q) ∙ i.values;
@@ -163,41 +160,39 @@ module _ (from to : ℕ) (s : List ℕ) (l : List (Option ℕ)) (d : List ℕ) (
         seen = sym (ap (options_seen from to m n) q) ∙ i.seen;
       }
 
-  pub no-rest : a ≡ e → Stopped from to s l (words (drop start s)) at
+  pub no-rest : words left ≡ [] → words left ≡ options_rest from to l (words s)
   unfolding options_rest
-  no-rest z =
-      let q = no_word s at a e w z in
-      record { within = i.within; rest = q ∙ sym (ap (options_rest from to m) q) ∙ i.rest }
+  no-rest q = q ∙ sym (ap (options_rest from to m) q) ∙ i.rest
 
-  module _ (z : a ≡ e → ⊥) (r : Took) (o : List (Option ℕ)) (p : List ℕ) (t : Stepped from to m n (part s a e) r o p) where
-    told_here : and_then r (options_took from to (values_after m (part s a e)) (words (drop e s))) ≡ options_took from to l (words (drop start s))
+  module _ (word rest : List ℕ) (f : FirstWord left word rest) (r : Took) (o : List (Option ℕ)) (p : List ℕ) (t : Stepped from to m n word r o p) where
+    told_here : and_then r (options_took from to (values_after m word) (words rest)) ≡ options_took from to l (words s)
     unfolding options_took
     told_here =
-        ap (λ (x : Took). and_then x (options_took from to (values_after m (part s a e)) (words (drop e s)))) t.told
-        ∙ sym (ap (options_took from to m) (one_word s at a e w z))
+        ap (λ (x : Took). and_then x (options_took from to (values_after m word) (words rest))) t.told
+        ∙ sym (ap (options_took from to m) f.reads)
         ∙ i.told
 
-    rest-here : stopped r (part s a e ∷ words (drop e s)) (options_rest from to (values_after m (part s a e)) (words (drop e s))) ≡ options_rest from to l (words (drop start s))
+    rest-here : stopped r (word ∷ words rest) (options_rest from to (values_after m word) (words rest)) ≡ options_rest from to l (words s)
     unfolding options_rest
     rest-here =
-        ap (λ (x : Took). stopped x (part s a e ∷ words (drop e s)) (options_rest from to (values_after m (part s a e)) (words (drop e s)))) t.told
-        ∙ sym (ap (options_rest from to m) (one_word s at a e w z))
+        ap (λ (x : Took). stopped x (word ∷ words rest) (options_rest from to (values_after m word) (words rest))) t.told
+        ∙ sym (ap (options_rest from to m) f.reads)
         ∙ i.rest
 
-    seen_here : stopped r p (options_seen from to (values_after m (part s a e)) p (words (drop e s))) ≡ options_seen from to l d (words (drop start s))
+    seen_here : stopped r p (options_seen from to (values_after m word) p (words rest)) ≡ options_seen from to l d (words s)
     unfolding options_seen
     seen_here =
-        ap (λ (x : Took). stopped x p (options_seen from to (values_after m (part s a e)) p (words (drop e s)))) t.told
-        ∙ ap (λ (x : List ℕ). stopped (took from to m (part s a e)) x (options_seen from to (values_after m (part s a e)) x (words (drop e s)))) t.seen
-        ∙ sym (ap (options_seen from to m n) (one_word s at a e w z))
+        ap (λ (x : Took). stopped x p (options_seen from to (values_after m word) p (words rest))) t.told
+        ∙ ap (λ (x : List ℕ). stopped (took from to m word) x (options_seen from to (values_after m word) x (words rest))) t.seen
+        ∙ sym (ap (options_seen from to m n) f.reads)
         ∙ i.seen
 
     module _ (x : Untaken) (q : r ≡ Err x) where
-      pub stops-there : Stopped from to s l (words (drop start s)) at
+      pub stops-there : words left ≡ options_rest from to l (words s)
       unfolding stopped
-      stops-there = record { within = i.within; rest = one_word s at a e w z ∙ (rw q at rest-here) }
+      stops-there = f.reads ∙ (rw q at rest-here)
 
-      pub stops-untaken : Ran from to l d (words (drop start s)) r o p
+      pub stops-untaken : Ran from to l d (words s) r o p
       unfolding and_then stopped
       stops-untaken =
           record {
@@ -207,22 +202,21 @@ module _ (from to : ℕ) (s : List ℕ) (l : List (Option ℕ)) (d : List ℕ) (
             seen = rw q at seen_here;
           }
 
-    pub goes_on : r ≡ Taken → length o ≡ length m → length p ≡ length n → Running from to s l d start e o p
+    pub goes_on : r ≡ Taken → length o ≡ length m → length p ≡ length n → Running from to s l d rest o p
     unfolding and_then options_values options_numbers stopped
     goes_on q x y =
         record {
-          within = w.within;
           as_long = x ∙ i.as_long;
           as_many = y ∙ i.as_many;
-          told = ap (λ (v : List (Option ℕ)). options_took from to v (words (drop e s))) (t.values q) ∙ (rw q at told_here);
+          told = ap (λ (v : List (Option ℕ)). options_took from to v (words rest)) (t.values q) ∙ (rw q at told_here);
           values =
-              ap (λ (v : List (Option ℕ)). options_values v (words (drop e s))) (t.values q)
-              ∙ sym (ap (options_values m) (one_word s at a e w z))
+              ap (λ (v : List (Option ℕ)). options_values v (words rest)) (t.values q)
+              ∙ sym (ap (options_values m) f.reads)
               ∙ i.values;
           numbers =
-              ap (λ (v : List ℕ). options_numbers v (words (drop e s))) (t.numbers q)
-              ∙ sym (ap (options_numbers n) (one_word s at a e w z))
+              ap (λ (v : List ℕ). options_numbers v (words rest)) (t.numbers q)
+              ∙ sym (ap (options_numbers n) f.reads)
               ∙ i.numbers;
-          seen = ap (λ (v : List (Option ℕ)). options_seen from to v p (words (drop e s))) (t.values q) ∙ (rw q at seen_here);
-          rest = ap (λ (v : List (Option ℕ)). options_rest from to v (words (drop e s))) (t.values q) ∙ (rw q at rest-here);
+          seen = ap (λ (v : List (Option ℕ)). options_seen from to v p (words rest)) (t.values q) ∙ (rw q at seen_here);
+          rest = ap (λ (v : List (Option ℕ)). options_rest from to v (words rest)) (t.values q) ∙ (rw q at rest-here);
         }

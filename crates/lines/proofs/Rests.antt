@@ -1,24 +1,21 @@
 -- A line's first word, and where its reading stops: what each way through gives. Assumes nothing.
 use mathlib.Core.Path.{◌≡◌, refl, sym, ap, ◌∙◌}
-use mathlib.Core.List.{List, [], ◌∷◌}
-use Prim.Native.Nat.{ℕ, ◌≤◌, ◌<◌}
-use native.Mathlib.Omega.{arith}
-use borrow.Author.Tests.{le-leb, lt-leb, eq-eqb, ne_eqb}
-use lib.ListN.{length, drop, get_or, length-take}
+use mathlib.Core.List.{List, []}
+use Prim.Native.Nat.{ℕ}
+use lib.ListN.{get_or}
 use Rattle.base.proofs.Picks.{pick-t, pick-f}
-use Rattle.text.specs.Run.{run, other}
-use Rattle.text.specs.Name.{place}
-use Rattle.text.specs.Split.{words, before, part, WordAt}
-use Rattle.text.proofs.Splits.{no_word, one_word, part-front}
+use Rattle.text.specs.Split.{words, FirstWord}
 use Rattle.lines.specs.Key.{buffer_key, settings, key_count, unread_words, unsaid}
-use Rattle.lines.specs.Name.{names, open_name, name_count, ends, text_of}
+use Rattle.lines.specs.declared.name.Name.{Name}
+use Rattle.lines.specs.declared.name.Name.TheVariants.{Open}
+use Rattle.lines.specs.Name.{is, form, text_of, Begins}
 use mathlib.Core.Bool.{true, false}
 use Rattle.std.specs.Prelude.{is_some, Option, Some, None}
 use Rattle.lines.specs.declared.argument.Kind.{Kind}
-use Rattle.lines.specs.Argument.{form, unread, if_read, arguments_rest, Arguments}
-use Rattle.lines.specs.Option.{options_rest, Stopped}
+use Rattle.lines.specs.Argument.{unread, if_read, arguments_rest, Arguments}
+use Rattle.lines.specs.Option.{options_rest}
 use Rattle.lines.specs.Call.{options_of}
-use Rattle.lines.specs.Found.{rest_named, rest_words, found_in, first_in, Stands}
+use Rattle.lines.specs.Found.{rest_named, rest_as, rest_words, found_in, first_in}
 
 -- ---- whether every word of a form was read
 
@@ -32,73 +29,54 @@ none-unread (Some t) e = cc
 
 -- ---- among the words after a name
 
-module _ (name : ℕ) (s : List ℕ) (ws : List (List ℕ)) where
-  pub at-setting : name ≡ open_name → (at : ℕ) → Stopped settings key_count s unsaid ws at → (at ≤ length s) × (words (drop at s) ≡ rest_named name ws)
+module _ (name : Name) (ws : List (List ℕ)) where
+  pub at-setting : is name Open ≡ true → options_rest settings key_count unsaid ws ≡ rest_named name ws
   unfolding rest_named
-  at-setting e at h = (h.within, h.rest ∙ sym (pick-t _ _ _ (eq-eqb name open_name e)))
+  at-setting e = sym (pick-t _ _ _ e)
 
-  module _ (f : name ≡ open_name → ⊥) (d : List ℕ) (r : Option Kind) (at : ℕ) (m e : List ℕ) (g : Arguments (form name) s unread_words d ws r at m e) where
-    pub at-word : (t : Kind) → r ≡ Some t → (at ≤ length s) × (words (drop at s) ≡ rest_named name ws)
+  module _ (f : is name Open ≡ false) (d : List ℕ) (r : Option Kind) (left m e : List ℕ) (g : Arguments (form name).words unread_words d ws r left m e) where
+    pub at-word : (t : Kind) → r ≡ Some t → words left ≡ rest_named name ws
     unfolding rest_named if_read
-    at-word t h = let u : unread (form name) ws ≡ Some t = sym g.told ∙ h in (g.within, g.rest ∙ sym (pick-f _ _ _ (ne_eqb name open_name f) ∙ rw u))
+    at-word t h = let u : unread (form name).words ws ≡ Some t = sym g.told ∙ h in g.rest ∙ sym (pick-f _ _ _ f ∙ rw u)
 
-    pub at_option : r ≡ None → (to : ℕ) → to ≡ get_or ends name 0 → (z : ℕ) → Stopped buffer_key to s unsaid (words (drop at s)) z
-        → (z ≤ length s) × (words (drop z s) ≡ rest_named name ws)
+    pub at_option : r ≡ None → (to : ℕ) → to ≡ (form name).keys_end → options_rest buffer_key to unsaid (words left) ≡ rest_named name ws
     unfolding rest_named if_read
-    at_option h to k z o = (
-      o.within,
-      o.rest
-          ∙ ap (λ (x : ℕ). options_rest buffer_key x unsaid (words (drop at s))) k
-          ∙ ap (options_rest buffer_key (get_or ends name 0) unsaid) (g.follows h)
-          ∙ sym (pick-f _ _ _ (ne_eqb name open_name f) ∙ ap (λ (x : Option Kind). if_read x (options_rest buffer_key (get_or ends name 0) unsaid (options_of name ws)) (arguments_rest (form name) ws)) (sym g.told ∙ h)),
-    )
+    at_option h to k =
+        ap (λ (x : ℕ). options_rest buffer_key x unsaid (words left)) k
+        ∙ ap (options_rest buffer_key (form name).keys_end unsaid) (g.follows h)
+        ∙ sym (pick-f _ _ _ f ∙ ap (λ (x : Option Kind). if_read x (options_rest buffer_key (form name).keys_end unsaid (options_of name ws)) (arguments_rest (form name).words ws)) (sym g.told ∙ h))
 
 -- ---- in a line
 
-first-before : (w : List ℕ) (ws : List (List ℕ)) → get_or (before w ws) 0 [] ≡ w
-unfolding before
-first-before [] ws = refl
-first-before (x ∷ xs) ws = refl
-
-module _ (line s : List ℕ) (q : s ≡ text_of line) where
-  -- a word of what stands before the comment is the first of some words
-  stands : (at a e : ℕ) → WordAt s at a e → (ws : List (List ℕ)) → words (drop at s) ≡ ws → Stands line (get_or ws 0 []) a e
-  stands at a e w ws r =
-      record {
-        ordered = w.ordered;
-        within = omega (arith, w.within, ap length q, length-take (run (other 35) line) line);
-        reads =
-            part-front line (run (other 35) line) a e w.ordered (rw q at w.within)
-            ∙ ap (λ (x : List ℕ). part x a e) (sym q)
-            ∙ sym (first-before (part s a e) (words (drop e s)))
-            ∙ ap (λ (x : List (List ℕ)). get_or x 0 []) (sym w.reads ∙ r);
-      }
-
-  pub first-stands : (a e : ℕ) → WordAt s 0 a e → Stands line (first_in line) a e
+module _ (line : List ℕ) where
+  pub no-first : words (text_of line) ≡ [] → [] ≡ first_in line
   unfolding first_in
-  first-stands a e w = stands 0 a e w _ (ap words q)
+  no-first e = rw e
 
-  found-stands : (at a e : ℕ) → WordAt s at a e → words (drop at s) ≡ rest_words (words s) → Stands line (found_in line) a e
-  unfolding found_in
-  found-stands at a e w r = stands at a e w _ (r ∙ ap (λ (x : List ℕ). rest_words (words x)) q)
+  pub no_words : words (text_of line) ≡ [] → [] ≡ found_in line
+  unfolding found_in rest_words
+  no_words e = rw e
 
-  module _ (a e : ℕ) (w : WordAt s 0 a e) where
-    pub no_words : a ≡ e → Stands line (found_in line) a e
+  module _ (word : List ℕ) (name : Option Name) (rest : List ℕ) (g : Begins line word name rest) where
+    pub first-word : word ≡ first_in line
+    unfolding first_in
+    first-word = rw g.reads
+
+    by-name : rest_as name word (words rest) ≡ rest_words (words (text_of line))
     unfolding rest_words
-    no_words z = let o = no_word s 0 a e w z in found-stands 0 a e w (o ∙ sym (ap rest_words o))
+    by-name = ap (λ (x : Option Name). rest_as x word (words rest)) g.named ∙ ap rest_words (sym g.reads)
 
-    module _ (z : a ≡ e → ⊥) (name : ℕ) (k : name ≡ place (part s a e) names) where
-      pub no_name : name_count ≤ name → Stands line (found_in line) a e
-      unfolding rest_words
-      no_name b =
-          let o = one_word s 0 a e w z in
-          found-stands 0 a e w (o ∙ sym (pick-t _ _ _ (le-leb name_count (place (part s a e) names) (omega arith))) ∙ ap rest_words (sym o))
+    pub no_name : name ≡ None → word ≡ found_in line
+    unfolding found_in rest_as
+    no_name b = ap (λ (x : List (List ℕ)). get_or x 0 []) (rw b at by-name)
 
-      pub after-name : name < name_count → (at x y : ℕ) → words (drop at s) ≡ rest_named name (words (drop e s)) → WordAt s at x y → Stands line (found_in line) x y
-      unfolding rest_words
-      after-name b at x y h v =
-          found-stands at x y v
-          (h
-          ∙ ap (λ (i : ℕ). rest_named i (words (drop e s))) k
-          ∙ sym (pick-f _ _ _ (lt-leb name_count (place (part s a e) names) (omega arith)))
-          ∙ ap rest_words (sym (one_word s 0 a e w z)))
+    module _ (call : Name) (b : name ≡ Some call) (left : List ℕ) (h : words left ≡ rest_named call (words rest)) where
+      found-left : get_or (words left) 0 [] ≡ found_in line
+      unfolding found_in rest_as
+      found-left = ap (λ (x : List (List ℕ)). get_or x 0 []) (h ∙ (rw b at by-name))
+
+      pub after-name : (at end : List ℕ) → FirstWord left at end → at ≡ found_in line
+      after-name at end f = sym (ap (λ (x : List (List ℕ)). get_or x 0 []) f.reads) ∙ found-left
+
+      pub at-end : words left ≡ [] → [] ≡ found_in line
+      at-end e = sym (ap (λ (x : List (List ℕ)). get_or x 0 []) e) ∙ found-left

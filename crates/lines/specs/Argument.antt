@@ -1,5 +1,5 @@
 -- The words that stand after a call's name. Definitions only.
-use Rattle.std.specs.Prelude.{ℕ, ◌+◌, ◌≤◌, ◌≡◌, List, [], ◌∷◌, length, drop, get_or, set, Option, Some, None}
+use Rattle.std.specs.Prelude.{ℕ, ◌+◌, ◌≡◌, List, [], ◌∷◌, length, drop, set, Option, Some, None}
 use Rattle.octets.specs.Written.{written}
 use Rattle.text.specs.Number.{digits_of}
 use Rattle.text.specs.Split.{words}
@@ -8,27 +8,6 @@ use Rattle.lines.specs.declared.argument.Kind.TheVariants.{Reading, Number, Octe
 use Rattle.lines.specs.Key.{most_octets}
 use Rattle.values.specs.Value.{given, up_to, reading, sender}
 use Rattle.values.specs.Octets.{octets_of, octets_seen, octet_count}
-
--- what the words are, by name
-abbrev pub forms : List (List Kind)
-forms =
-    (Reading ∷ [])
-    ∷ (Reading ∷ [])
-    ∷ (Reading ∷ Reading ∷ Number ∷ [])
-    ∷ (Reading ∷ Reading ∷ Octet ∷ [])
-    ∷ (Reading ∷ Reading ∷ Sender ∷ Octets ∷ [])
-    ∷ (Reading ∷ Places ∷ [])
-    ∷ []
-    ∷ []
-    ∷ []
-    ∷ []
-    ∷ []
-    ∷ []
-    ∷ []
-    ∷ []
-
-abbrev pub form : ℕ → List Kind
-form name = get_or forms name []
 
 -- the most that each can be, a sender by its address and port as one number, octets by how many they are
 abbrev pub most : Kind → ℕ
@@ -103,12 +82,11 @@ arguments_rest [] ws = ws
 arguments_rest (t ∷ ts) [] = []
 arguments_rest (t ∷ ts) (w ∷ ws) = given (argument t w) (λ n. arguments_rest ts ws) (w ∷ ws)
 
--- the words ws were read by a form; what s has from at on follows them, or is where it stopped
-pub record Arguments (ts : List Kind) (s l d : List ℕ) (ws : List (List ℕ)) (r : Option Kind) (at : ℕ) (m e : List ℕ) : Type 0 where
+-- the words ws were read by a form; what is left follows them, or is from the one on at which it stopped
+pub record Arguments (ts : List Kind) (l d : List ℕ) (ws : List (List ℕ)) (r : Option Kind) (left m e : List ℕ) : Type 0 where
   pub told : r ≡ unread ts ws
-  pub within : at ≤ length s
   pub values : r ≡ None → m ≡ argument_values 0 ts ws l
   pub octets : r ≡ None → e ≡ argument_octets ts ws d
   pub seen : e ≡ arguments_seen ts ws d
-  pub follows : r ≡ None → words (drop at s) ≡ drop (length ts) ws
-  pub rest : words (drop at s) ≡ arguments_rest ts ws
+  pub follows : r ≡ None → words left ≡ drop (length ts) ws
+  pub rest : words left ≡ arguments_rest ts ws

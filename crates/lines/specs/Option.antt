@@ -1,11 +1,10 @@
 -- Options, key=value: what each key takes, and what a run of them leaves. Definitions only.
-use Rattle.std.specs.Prelude.{ℕ, ◌+◌, ◌≤◌, ◌≡◌, Bool, List, [], ◌∷◌, map, ltb, leb, length, take, drop, get_or, set, is_some, ⊤, Option, Some, None, Result, Ok, Err}
+use Rattle.std.specs.Prelude.{ℕ, ◌+◌, ◌≡◌, Bool, List, [], ◌∷◌, map, ltb, leb, length, take, drop, get_or, set, is_some, ⊤, Option, Some, None, Result, Ok, Err}
 use Rattle.base.specs.Pick.{pick}
 use Rattle.octets.specs.Written.{written}
 use Rattle.text.specs.Run.{run, other}
 use Rattle.text.specs.Name.{ascii, named, place, same}
 use Rattle.text.specs.Number.{digits_of}
-use Rattle.text.specs.Split.{words}
 use Rattle.lines.specs.declared.Expected.{Expected}
 use Rattle.lines.specs.declared.option.Spelling.{Spelling}
 use Rattle.lines.specs.declared.option.Spelling.TheVariants.{Number, Reading, Double, Address, Board, Attenuation, Waiting}
@@ -190,8 +189,3 @@ pub record Ran (from to : ℕ) (l : List (Option ℕ)) (d : List ℕ) (ws : List
   pub values : r ≡ Taken → m ≡ options_values l ws
   pub numbers : r ≡ Taken → e ≡ options_numbers d ws
   pub seen : e ≡ options_seen from to l d ws
-
--- a run of the words ws stopped in s at at
-pub record Stopped (from to : ℕ) (s : List ℕ) (l : List (Option ℕ)) (ws : List (List ℕ)) (at : ℕ) : Type 0 where
-  pub within : at ≤ length s
-  pub rest : words (drop at s) ≡ options_rest from to l ws

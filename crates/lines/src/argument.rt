@@ -1,11 +1,12 @@
 // The words that stand after a call's name, into a lent list of values.
-ghost use Rattle.std.specs.Prelude.{◌≡◌, ◌≤◌, ◌<◌, length, drop};
+ghost use Rattle.std.specs.Prelude.{◌≡◌, ◌≤◌, length};
 ghost use Rattle.text.specs.Split.{words};
 ghost use Rattle.lines.specs.Argument as Argument;
 ghost use Rattle.lines.specs.Key.{word_count, most_octets};
-ghost use Rattle.lines.specs.Name.{name_count};
+ghost use Rattle.lines.specs.Name.{form};
 
-use super::{MOST_OCTETS, name};
+use super::MOST_OCTETS;
+use super::name::Name;
 use values::address::sender;
 use values::hexadecimal::octets;
 use values::reading::{reading, up_to};
@@ -37,20 +38,6 @@ impl Kind {
     }
 }
 
-// What the words are that stand after a name, in order.
-fn form(name: usize) -> &'static [Kind]
-    ensures { result.now ≡ Argument.form name }
-{
-    match name {
-        name::BEGIN | name::PASS => &[Kind::Reading],
-        name::IQ => &[Kind::Reading, Kind::Reading, Kind::Number],
-        name::STATUS => &[Kind::Reading, Kind::Reading, Kind::Octet],
-        name::DATAGRAM => &[Kind::Reading, Kind::Reading, Kind::Sender, Kind::Octets],
-        name::TAKE => &[Kind::Reading, Kind::Places],
-        _ => &[],
-    }
-}
-
 fn argument_as(kind: Kind, w: &[u8], room: &mut [u8]) -> Option<u64>
     requires { most_octets ≤ length room.old }
     ensures { (result ≡ Argument.argument_as kind w.now) ×
@@ -73,43 +60,40 @@ fn argument(kind: Kind, w: &[u8], room: &mut [u8]) -> Option<u64>
 }
 
 #[derive(Clone, Copy)]
-pub(crate) struct Words {
+pub(crate) struct Words<'a> {
     // what the first word is that isn't there or can't be read
     pub(crate) unread: Option<Kind>,
-    pub(crate) at: usize,
+    // what is left, from that word on, or behind all of them
+    pub(crate) left: &'a [u8],
 }
 
-// The words of s from `start` on, by the form of a name.
-pub(crate) fn arguments(
-    s: &[u8],
-    start: usize,
-    name: usize,
+// The words of s, as those of a name.
+pub(crate) fn arguments<'a>(
+    s: &'a [u8],
+    name: Name,
     values: &mut [u64],
     room: &mut [u8],
-) -> Words
-    requires { (start ≤ length s.now) × (name < name_count) × (word_count ≤ length values.old) × (most_octets ≤ length room.old) }
-    ensures { Argument.Arguments (Argument.form name) s.now values.old room.old
-        (words (drop start s.now)) result.unread result.at values.new room.new }
+) -> Words<'a>
+    requires { (word_count ≤ length values.old) × (most_octets ≤ length room.old) }
+    ensures { Argument.Arguments (form name).words values.old room.old
+        (words s.now) result.unread result.left.now values.new room.new }
 {
-    let mut at = start;
-    for (j, &kind) in form(name).iter().enumerate() {
-        let word = text::word_at(s, at);
-        let from = word.start;
-        let end = word.end;
-        if from == end {
+    let mut left = s;
+    for (j, &kind) in name.words().iter().enumerate() {
+        let Some((word, rest)) = text::split_word(left) else {
             return Words {
                 unread: Some(kind),
-                at,
+                left,
             };
-        }
-        let Some(v) = argument(kind, &s[from..end], &mut *room) else {
+        };
+        let Some(v) = argument(kind, word, &mut *room) else {
             return Words {
                 unread: Some(kind),
-                at,
+                left,
             };
         };
         values[j] = v;
-        at = end;
+        left = rest;
     }
-    Words { unread: None, at }
+    Words { unread: None, left }
 }

@@ -1,15 +1,14 @@
 // A line's call: its name, then what stands after it.
-ghost use Rattle.std.specs.Prelude.{◌≡◌, ◌≤◌, ◌<◌, length, drop};
+ghost use Rattle.std.specs.Prelude.{◌≡◌, ◌≤◌, ◌<◌, length};
 ghost use Rattle.text.specs.Split.{words};
 ghost use Rattle.lines.specs.Call as Call;
-ghost use Rattle.lines.specs.Key.{key_count, most_octets, most_numbers};
-ghost use Rattle.lines.specs.Name.{name_count};
+ghost use Rattle.lines.specs.Key.{key_count, most_octets};
 
 use super::argument::{Kind, arguments};
 use super::key::{BUFFER, KEY_COUNT, WORD_COUNT};
-use super::name::{BUFFERS, ENDS, KINDS, begins};
+use super::name::{Name, begins};
 use super::option::options;
-use super::{Expected, LONGEST, MOST_NUMBERS, MOST_OCTETS, Read, key, name};
+use super::{Asked, Endpoint, Expected, LONGEST, Read, key};
 use iq::IQ_DATAGRAM_LEN;
 use stream::{BITS_PER_SAMPLE, SAMPLES_PER_DATAGRAM};
 use values::datagram::{put_iq, put_status};
@@ -33,6 +32,18 @@ fn expected_word(kind: Kind) -> Expected
     }
 }
 
+// What a line of a name asks for.
+fn asks(name: Name) -> Read
+    ensures { result ≡ Call.asks name }
+{
+    match name {
+        Name::State => Read::State,
+        Name::Radio => Read::Radio,
+        Name::Open => Read::Open,
+        _ => Read::Call,
+    }
+}
+
 // What a call's line says: its words, and each key's value where the key is said.
 #[derive(Clone, Copy)]
 pub struct Values {
@@ -48,79 +59,55 @@ pub(crate) fn or_else(keys: &[Option<u64>], key: usize, other: u64) -> u64
     keys[key].unwrap_or(other)
 }
 
-fn later_of(name: usize, values: &Values) -> u64
+fn later_of(name: Name, values: &Values) -> u64
     ensures { result ≡ Call.later_of name values.now }
 {
-    if name == name::TAKE {
+    if name == Name::Take {
         return 0;
     }
     values.words[key::SECOND_WORD]
 }
 
-fn address_of(name: usize, ip: u32, values: &Values) -> u64
-    ensures { result ≡ Call.address_of name ip values.now }
+// The sender's address and port: those that the line says, or the radio's own of the datagram's kind.
+fn sender_of(name: Name, radio: Endpoint, values: &Values) -> (u64, u64)
+    ensures { result ≡ Call.sender_of name radio values.now }
 {
-    if name == name::DATAGRAM {
-        return values.words[key::THIRD_WORD] / 65536;
+    let said = values.words[key::THIRD_WORD];
+    match name {
+        Name::Datagram => (said / 65536, said % 65536),
+        Name::Iq => (u64::from(radio.ip), u64::from(radio.port.wrapping_add(11))),
+        Name::Status => (u64::from(radio.ip), u64::from(radio.port.wrapping_add(1))),
+        _ => (0, 0),
     }
-    if name == name::IQ {
-        return ip as u64;
-    }
-    if name == name::STATUS {
-        return ip as u64;
-    }
-    0
 }
 
-fn port_of(name: usize, port: u16, values: &Values) -> u64
-    ensures { result ≡ Call.port_of name port values.now }
-{
-    if name == name::DATAGRAM {
-        return values.words[key::THIRD_WORD] % 65536;
-    }
-    if name == name::IQ {
-        return (port as u64 + 11) % 65536;
-    }
-    if name == name::STATUS {
-        return (port as u64 + 1) % 65536;
-    }
-    0
-}
-
-fn count_of(name: usize, values: &Values) -> u64
+fn count_of(name: Name, values: &Values) -> u64
     ensures { result ≡ Call.count_of name values.now }
 {
-    if name == name::IQ {
-        return or_else(&values.keys, key::LENGTH, LENGTH);
+    match name {
+        Name::Iq => or_else(&values.keys, key::LENGTH, LENGTH),
+        Name::Status => STATUS_LEN as u64,
+        Name::Datagram => values.words[key::FOURTH_WORD],
+        _ => 0,
     }
-    if name == name::STATUS {
-        return STATUS_LEN as u64;
-    }
-    if name == name::DATAGRAM {
-        return values.words[key::FOURTH_WORD];
-    }
-    0
 }
 
-fn places_of(name: usize, values: &Values) -> u64
-    requires { name < name_count }
+fn places_of(name: Name, values: &Values) -> u64
     ensures { result ≡ Call.places_of name values.now }
 {
-    if name == name::TAKE {
+    if name == Name::Take {
         return values.words[key::SECOND_WORD];
     }
-    or_else(&values.keys, BUFFER, BUFFERS[name])
+    or_else(&values.keys, BUFFER, name.buffer())
 }
 
-fn call_of(name: usize, ip: u32, port: u16, values: &Values) -> [u64; 8]
-    requires { name < name_count }
-    ensures { result ≡ Call.call_of name ip port values.now }
+fn call_of(name: Name, radio: Endpoint, values: &Values) -> [u64; 8]
+    ensures { result ≡ Call.call_of name radio values.now }
 {
-    let kind = KINDS[name];
+    let kind = name.kind();
     let reading = values.words[key::FIRST_WORD];
     let later = later_of(name, values);
-    let address = address_of(name, ip, values);
-    let from = port_of(name, port, values);
+    let (address, from) = sender_of(name, radio, values);
     let count = count_of(name, values);
     let waiting = or_else(&values.keys, key::WAITING, 0);
     let places = places_of(name, values);
@@ -128,83 +115,58 @@ fn call_of(name: usize, ip: u32, port: u16, values: &Values) -> [u64; 8]
 }
 
 // The datagram of an `iq` or a `status` line; that of `datagram` is there.
-fn put_datagram(name: usize, values: &Values, octets: &mut [u8])
+fn put_datagram(name: Name, values: &Values, octets: &mut [u8])
     requires { (most_octets ≤ length octets.old) × Call.Small name values.now }
     ensures { octets.new ≡ Call.octets_of name values.now octets.old }
 {
-    if name == name::IQ {
-        let number = values.words[key::THIRD_WORD] as u32;
-        let bits = or_else(&values.keys, key::BITS, BITS) as u16;
-        let samples = or_else(&values.keys, key::SAMPLES, SAMPLES_PER_DATAGRAM) as u16;
-        put_iq(octets, number, bits, samples);
-        return;
-    }
-    if name == name::STATUS {
-        put_status(octets, values.words[key::THIRD_WORD] as u8);
+    match name {
+        Name::Iq => {
+            let number = values.words[key::THIRD_WORD] as u32;
+            let bits = or_else(&values.keys, key::BITS, BITS) as u16;
+            let samples = or_else(&values.keys, key::SAMPLES, SAMPLES_PER_DATAGRAM) as u16;
+            put_iq(octets, number, bits, samples)
+        }
+        Name::Status => put_status(octets, values.words[key::THIRD_WORD] as u8),
+        _ => {}
     }
 }
 
-fn read_named(
-    s: &[u8],
-    at: usize,
-    name: usize,
-    ip: u32,
-    port: u16,
-    call: &mut [u64; 8],
-    octets: &mut [u8],
-    numbers: &mut [u32],
-) -> Result<Read, Expected>
-    requires { (at ≤ length s.now) × (name < name_count) × (most_octets ≤ length octets.old) × (most_numbers ≤ length numbers.old) }
-    ensures { Call.Named name ip port call.old octets.old numbers.old
-        (words (drop at s.now)) result call.new octets.new numbers.new }
+fn read_named(s: &[u8], name: Name, radio: Endpoint, asked: &mut Asked) -> Result<Read, Expected>
+    ensures { Call.Named name radio asked.old (words s.now) result asked.new }
 {
     let mut words = [0u64; WORD_COUNT];
-    let given = arguments(s, at, name, &mut words, &mut *octets);
-    let start = given.at;
+    let given = arguments(s, name, &mut words, &mut asked.octets);
     if let Some(kind) = given.unread {
         return Err(expected_word(kind));
     }
     let mut keys: [Option<u64>; KEY_COUNT] = [None; KEY_COUNT];
-    let run = options(s, start, BUFFER, ENDS[name], &mut keys, &mut *numbers);
+    let end = name.keys_end();
+    let run = options(given.left, BUFFER, end, &mut keys, &mut asked.numbers);
     if let Err(untaken) = run.took {
         return Err(untaken.expected(Expected::End));
     }
-    if name == name::STATE {
-        return Ok(Read::State);
+    let asks = asks(name);
+    if asks == Read::Call {
+        let values = Values { words, keys };
+        asked.call = call_of(name, radio, &values);
+        put_datagram(name, &values, &mut asked.octets);
+        return Ok(Read::Call);
     }
-    if name == name::RADIO {
-        return Ok(Read::Radio);
-    }
-    let values = Values { words, keys };
-    *call = call_of(name, ip, port, &values);
-    put_datagram(name, &values, octets);
-    Ok(Read::Call)
+    Ok(asks)
 }
 
-pub(crate) fn read_line(
-    line: &[u8],
-    ip: u32,
-    port: u16,
-    call: &mut [u64; 8],
-    octets: &mut [u8; MOST_OCTETS],
-    numbers: &mut [u32; MOST_NUMBERS],
-) -> Result<Read, Expected>
-    ensures { Call.Lent line.now ip port call.old octets.old numbers.old result
-        call.new octets.new numbers.new }
+pub(crate) fn read_line(line: &[u8], radio: Endpoint, asked: &mut Asked) -> Result<Read, Expected>
+    ensures { Call.Lent line.now radio asked.old result asked.new }
 {
     if line.len() > LONGEST {
         return Err(Expected::ShorterLine);
     }
-    let first = begins(line);
-    let text = first.text;
-    let end = first.end;
-    if first.start == end {
+    let Some(first) = begins(line) else {
         return Ok(Read::Nothing);
-    }
+    };
     let name = first.name.ok_or(Expected::Call)?;
-    if name == name::OPEN {
+    if name == Name::Open {
         return Ok(Read::Open);
     }
-    let s = &line[..text];
-    read_named(s, end, name, ip, port, call, octets, numbers)
+    read_named(first.rest, name, radio, asked)
 }

@@ -3,11 +3,10 @@
 
 ghost use Rattle.std.specs.Prelude.{◌≡◌};
 ghost use Rattle.lines.specs.Call.{Lent};
-ghost use Rattle.lines.specs.Open.{opening_of};
-ghost use Rattle.lines.specs.Found.{Stands, found_in, first_in};
+ghost use Rattle.lines.specs.Open.{opening_of, radio_of};
+ghost use Rattle.lines.specs.Found.{found_in, first_in};
 
 use model::settings::Settings;
-use text::Word;
 
 mod argument;
 mod call;
@@ -54,21 +53,40 @@ pub enum Read {
     Radio,
 }
 
-// Reads a line of a session that has this address and port, or tells what was expected where it can't be read. A call is eight numbers (specs/Call); its datagram and its waiting
-// numbers go to the front of the lent buffers as they are read. After any other answer the eight numbers are as they were, and the
-// octets and the waiting numbers hold what was written before the reading stopped. Of an `open` nothing but its name is looked at.
-pub fn read_call(
-    line: &[u8],
-    radio_ip: u32,
-    port: u16,
-    call: &mut [u64; 8],
-    octets: &mut [u8; MOST_OCTETS],
-    numbers: &mut [u32; MOST_NUMBERS],
-) -> Result<Read, Expected>
-    ensures { Lent line.now radio_ip port call.old octets.old numbers.old result
-        call.new octets.new numbers.new }
+// Where the radio of a session is.
+#[derive(Clone, Copy, Debug, PartialEq, Eq, Default)]
+pub struct Endpoint {
+    // an IPv4 address, its first octet the highest
+    pub ip: u32,
+    pub port: u16,
+}
+
+// A call as a line is read: its eight numbers (specs/Call), and its datagram and its waiting numbers at the front of their rooms.
+#[derive(Drop)]
+pub struct Asked {
+    pub call: [u64; 8],
+    pub octets: [u8; MOST_OCTETS],
+    pub numbers: [u32; MOST_NUMBERS],
+}
+
+impl Asked {
+    // Zeros: no line is read yet.
+    pub fn new() -> Asked {
+        Asked {
+            call: [0; 8],
+            octets: [0; MOST_OCTETS],
+            numbers: [0; MOST_NUMBERS],
+        }
+    }
+}
+
+// Reads a line of a session whose radio is there, or tells what was expected where it can't be read. After any answer but a call the
+// eight numbers are as they were, and the octets and the waiting numbers hold what was written before the reading stopped. Of an
+// `open` nothing but its name is looked at.
+pub fn read_call(line: &[u8], radio: Endpoint, asked: &mut Asked) -> Result<Read, Expected>
+    ensures { Lent line.now radio asked.old result asked.new }
 {
-    call::read_line(line, radio_ip, port, call, octets, numbers)
+    call::read_line(line, radio, asked)
 }
 
 // What an `open` asks for. One that can't be read has the settings of an `open` that says none.
@@ -80,6 +98,18 @@ pub struct Opening {
     pub settings: Settings,
 }
 
+impl Opening {
+    // Where the radio is.
+    pub fn radio(self) -> Endpoint
+        ensures { result ≡ radio_of self.settings }
+    {
+        Endpoint {
+            ip: self.settings.radio_ip,
+            port: self.settings.port,
+        }
+    }
+}
+
 // Reads a line whose first word is `open`; another is told to be none.
 pub fn read_open(line: &[u8]) -> Opening
     ensures { result ≡ opening_of line.now }
@@ -87,20 +117,16 @@ pub fn read_open(line: &[u8]) -> Opening
     open::read_settings(line)
 }
 
-// The word of a line that can't be read, for whoever tells of it. It ends where it starts if the line ends there, or can be read.
-pub fn found(line: &[u8]) -> Word
-    ensures { Stands line.now (found_in line.now) result.start result.end }
+// The word of a line that can't be read, for whoever tells of it. It is empty if the line ends there, or can be read.
+pub fn found(line: &[u8]) -> &[u8]
+    ensures { result.now ≡ found_in line.now }
 {
     stops::found_in(line)
 }
 
-// The first word of a line, which names its call. It ends where it starts if the line has no words.
-pub fn first_word(line: &[u8]) -> Word
-    ensures { Stands line.now (first_in line.now) result.start result.end }
+// The first word of a line, which names its call. It is empty if the line has no words.
+pub fn first_word(line: &[u8]) -> &[u8]
+    ensures { result.now ≡ first_in line.now }
 {
-    let first = name::begins(line);
-    Word {
-        start: first.start,
-        end: first.end,
-    }
+    stops::first_in(line)
 }

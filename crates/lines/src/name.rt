@@ -1,77 +1,130 @@
-// The names of calls, what a call of each has, and the name that a line begins with.
-ghost use Rattle.lines.specs.Name.{Begins};
+// The names of calls, what a line of each has, and the name that a line begins with.
+ghost use Rattle.std.specs.Prelude.{◌≡◌, [], MatchOption};
+ghost use Rattle.text.specs.Split.{words};
+ghost use Rattle.lines.specs.Name.{Begins, form, name_of, text_of};
 
+use super::argument::Kind;
 use super::key::{BUFFER, LENGTH, SETTINGS, WAITING};
 
-// A name is its place here, as `place_of` finds it, and the tables below are indexed by it: so it is a number.
-pub(crate) const NAMES: [u8; 87] =
-    *b"begin pass iq status datagram take close missing discontinuity stalled state radio open";
-
-pub(crate) const BEGIN: usize = 0;
-
-pub(crate) const PASS: usize = 1;
-
-pub(crate) const IQ: usize = 2;
-
-pub(crate) const STATUS: usize = 3;
-
-pub(crate) const DATAGRAM: usize = 4;
-
-pub(crate) const TAKE: usize = 5;
-
-pub(crate) const CLOSE: usize = 6;
-
-pub(crate) const MISSING: usize = 7;
-
-pub(crate) const DISCONTINUITY: usize = 8;
-
-pub(crate) const STALLED: usize = 9;
-
-pub(crate) const STATE: usize = 10;
-
-pub(crate) const RADIO: usize = 11;
-
-pub(crate) const OPEN: usize = 12;
-
-pub(crate) const NAME_COUNT: usize = 13;
-
-// A call has the keys before this one; `open` has the settings.
-pub(crate) const ENDS: [usize; NAME_COUNT] = [
-    BUFFER, WAITING, SETTINGS, LENGTH, LENGTH, BUFFER, WAITING, BUFFER, BUFFER, BUFFER, BUFFER,
-    BUFFER, BUFFER,
-];
-
-// As eight numbers say it: begin, pass, an arrival, take, close, missing, discontinuity, stalled.
-pub(crate) const KINDS: [u64; NAME_COUNT] = [0, 1, 2, 2, 2, 3, 4, 5, 6, 7, 0, 0, 0];
-
-// The packet buffer that a call needs.
-pub(crate) const BUFFERS: [u64; NAME_COUNT] = [
-    0, 4452, 1444, 1444, 1444, 0, 2888, 0, 0, 0, 0, 0, 0,
-];
-
-// A line's text ends where its comment starts. Its first word ends where it starts if the line has no words.
-#[derive(Clone, Copy)]
-pub(crate) struct Beginning {
-    pub(crate) text: usize,
-    pub(crate) start: usize,
-    pub(crate) end: usize,
-    // none if the word is no name
-    pub(crate) name: Option<usize>,
+// What the first word of a line names: a call, what is asked of a session beside its calls, or a session that is opened.
+#[derive(Clone, Copy, Debug, PartialEq, Eq)]
+pub enum Name {
+    Begin,
+    Pass,
+    Iq,
+    Status,
+    Datagram,
+    Take,
+    Close,
+    Missing,
+    Discontinuity,
+    Stalled,
+    State,
+    Radio,
+    Open,
 }
 
-pub(crate) fn begins(line: &[u8]) -> Beginning
-    ensures { Begins line.now result.text result.start result.end result.name }
-{
-    let text = text::find(line, b'#');
-    let s = &line[..text];
-    let word = text::word_at(s, 0);
-    let start = word.start;
-    let end = word.end;
-    let name = text::place_of(&s[start..end], &NAMES);
-    Beginning {
-        text,
-        start,
-        end,
-        name,
+// How they are spelt, as `place_of` takes it, and which name each place is.
+const SPELT: [u8; 87] =
+    *b"begin pass iq status datagram take close missing discontinuity stalled state radio open";
+
+const NAMES: [Name; 13] = [
+    Name::Begin,
+    Name::Pass,
+    Name::Iq,
+    Name::Status,
+    Name::Datagram,
+    Name::Take,
+    Name::Close,
+    Name::Missing,
+    Name::Discontinuity,
+    Name::Stalled,
+    Name::State,
+    Name::Radio,
+    Name::Open,
+];
+
+impl Name {
+    fn of(word: &[u8]) -> Option<Name>
+        ensures { result ≡ name_of word.now }
+    {
+        let place = text::place_of(word, &SPELT)?;
+        NAMES.get(place).copied()
     }
+
+    // What the words are that stand after it, in order.
+    pub(crate) fn words(self) -> &'static [Kind]
+        ensures { result.now ≡ (form self).words }
+    {
+        match self {
+            Name::Begin | Name::Pass => &[Kind::Reading],
+            Name::Iq => &[Kind::Reading, Kind::Reading, Kind::Number],
+            Name::Status => &[Kind::Reading, Kind::Reading, Kind::Octet],
+            Name::Datagram => &[Kind::Reading, Kind::Reading, Kind::Sender, Kind::Octets],
+            Name::Take => &[Kind::Reading, Kind::Places],
+            _ => &[],
+        }
+    }
+
+    // A call has the keys before this one.
+    pub(crate) fn keys_end(self) -> usize
+        ensures { result ≡ (form self).keys_end }
+    {
+        match self {
+            Name::Pass | Name::Close => WAITING,
+            Name::Iq => SETTINGS,
+            Name::Status | Name::Datagram => LENGTH,
+            _ => BUFFER,
+        }
+    }
+
+    // As the first of eight numbers says it; what is no call has 0.
+    pub(crate) fn kind(self) -> u64
+        ensures { result ≡ (form self).kind }
+    {
+        match self {
+            Name::Pass => 1,
+            Name::Iq | Name::Status | Name::Datagram => 2,
+            Name::Take => 3,
+            Name::Close => 4,
+            Name::Missing => 5,
+            Name::Discontinuity => 6,
+            Name::Stalled => 7,
+            Name::Begin | Name::State | Name::Radio | Name::Open => 0,
+        }
+    }
+
+    // The packet buffer that a call needs.
+    pub(crate) fn buffer(self) -> u64
+        ensures { result ≡ (form self).buffer }
+    {
+        match self {
+            Name::Pass => 4452,
+            Name::Iq | Name::Status | Name::Datagram => 1444,
+            Name::Close => 2888,
+            _ => 0,
+        }
+    }
+}
+
+// A line's first word, what it names, and what follows it, without the line's comment.
+#[derive(Clone, Copy)]
+pub(crate) struct Beginning<'a> {
+    pub(crate) word: &'a [u8],
+    // none if the word is no name
+    pub(crate) name: Option<Name>,
+    pub(crate) rest: &'a [u8],
+}
+
+// None where the line has no words.
+pub(crate) fn begins(line: &[u8]) -> Option<Beginning>
+    ensures { MatchOption result (words (text_of line.now) ≡ []) (λ b. Begins line.now b.word.now b.name b.rest.now) }
+{
+    let end = text::find(line, b'#');
+    let (word, rest) = text::split_word(&line[..end])?;
+    Some(Beginning {
+        word,
+        name: Name::of(word),
+        rest,
+    })
 }

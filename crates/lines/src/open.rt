@@ -1,5 +1,5 @@
 // `open` and its settings.
-ghost use Rattle.std.specs.Prelude.{◌≡◌, ◌≤◌, ◌<◌, length, drop};
+ghost use Rattle.std.specs.Prelude.{◌≡◌, ◌≤◌, ◌<◌, length};
 ghost use Rattle.std.specs.Float.{binary64};
 ghost use Rattle.std.specs.Float.Ieee.{of_bits};
 ghost use Rattle.text.specs.Split.{words};
@@ -9,8 +9,8 @@ ghost use Rattle.lines.specs.Open as Open;
 
 use super::call::or_else;
 use super::key::{KEY_COUNT, SETTINGS};
-use super::name::{OPEN, begins};
-use super::option::{OFF, ON, SKIPPED, UNSAID, options};
+use super::name::{Name, begins};
+use super::option::options;
 use super::{Expected, LONGEST, MOST_NUMBERS, Opening, key};
 use model::settings::{AttenuationChoice, Settings};
 use tuning::board::{BoardInfo, board_info};
@@ -32,26 +32,22 @@ fn double_of(bits: u64) -> f64
     f64::from_bits(bits)
 }
 
+// What is above a board's number stands for a discovery that was skipped.
 fn board_of(n: u64) -> BoardInfo
-    requires { n ≤ 256 }
     ensures { result ≡ board_info (Open.board_id n) }
 {
-    if n == SKIPPED {
-        return board_info(None);
-    }
-    board_info(Some(n as u8))
+    board_info(u8::try_from(n).ok())
 }
 
-fn choice_of(n: u64) -> AttenuationChoice
-    ensures { result ≡ Open.choice n }
+// By its place among the words that spell it, where the key is said.
+fn choice_of(place: Option<u64>) -> AttenuationChoice
+    ensures { result ≡ Open.choice place }
 {
-    if n == OFF {
-        return AttenuationChoice::Off;
+    match place {
+        Some(0) => AttenuationChoice::Off,
+        Some(1) => AttenuationChoice::On,
+        _ => AttenuationChoice::Unsaid,
     }
-    if n == ON {
-        return AttenuationChoice::On;
-    }
-    AttenuationChoice::Unsaid
 }
 
 fn double_or(keys: &[Option<u64>], key: usize, other: u64) -> f64
@@ -72,7 +68,7 @@ fn settings_of(keys: &[Option<u64>]) -> Settings
     let port = or_else(keys, key::PORT, 1024) as u16;
     let radio_ip = or_else(keys, key::RADIO, RADIO) as u32;
     let board = board_of(or_else(keys, key::BOARD, 1));
-    let attenuation = choice_of(or_else(keys, key::ATTENUATION, UNSAID));
+    let attenuation = choice_of(keys[key::ATTENUATION]);
     let soft_after = or_else(keys, key::SOFT, 4500000000);
     let stall_after = or_else(keys, key::HARD, 10000000000);
     let park_window = or_else(keys, key::WINDOW, 8192);
@@ -105,13 +101,12 @@ fn unread(expected: Expected) -> Opening
 }
 
 // The words after `open`.
-fn opened(s: &[u8], at: usize) -> Opening
-    requires { at ≤ length s.now }
-    ensures { result ≡ Open.opened_by (words (drop at s.now)) }
+fn opened(s: &[u8]) -> Opening
+    ensures { result ≡ Open.opened_by (words s.now) }
 {
     let mut keys: [Option<u64>; KEY_COUNT] = [None; KEY_COUNT];
     let mut numbers = [0u32; MOST_NUMBERS];
-    let run = options(s, at, SETTINGS, KEY_COUNT, &mut keys, &mut numbers);
+    let run = options(s, SETTINGS, KEY_COUNT, &mut keys, &mut numbers);
     if let Err(untaken) = run.took {
         return unread(untaken.expected(Expected::Setting));
     }
@@ -128,17 +123,14 @@ pub(crate) fn read_settings(line: &[u8]) -> Opening
     if line.len() > LONGEST {
         return unread(Expected::ShorterLine);
     }
-    let first = begins(line);
-    let text = first.text;
-    let end = first.end;
-    if first.start == end {
+    let Some(first) = begins(line) else {
         return unread(Expected::Open);
-    }
+    };
     let Some(name) = first.name else {
         return unread(Expected::Open);
     };
-    if name != OPEN {
-        return unread(Expected::Open);
+    if name == Name::Open {
+        return opened(first.rest);
     }
-    opened(&line[..text], end)
+    unread(Expected::Open)
 }

@@ -1,5 +1,5 @@
 // Options, key=value, each at most once, into a lent list of the keys' values.
-ghost use Rattle.std.specs.Prelude.{◌≡◌, ◌≤◌, ◌<◌, length, drop};
+ghost use Rattle.std.specs.Prelude.{◌≡◌, ◌≤◌, ◌<◌, length};
 ghost use Rattle.text.specs.Split.{words};
 ghost use Rattle.lines.specs.Option as Option;
 ghost use Rattle.lines.specs.Key.{key_count, most_numbers};
@@ -25,19 +25,11 @@ pub enum Spelling {
 // The most octets of a lent packet buffer.
 const MOST_BUFFER: u64 = 8192;
 
-// The keys' values stand as numbers in one list (specs/Option), so a board and an attenuation are numbers there.
+// How an attenuation is spelt.
+const CHOICES: [u8; 13] = *b"off on unsaid";
 
-// A board that discovery skipped.
-pub(crate) const SKIPPED: u64 = 256;
-
-// The attenuations.
-pub(crate) const OFF: u64 = 0;
-
-pub(crate) const ON: u64 = 1;
-
-pub(crate) const UNSAID: u64 = 2;
-
-// How each key's value is spelt, and the most that it can be (specs/Option).
+// How each key's value is spelt, and the most that it can be (specs/Option). The values stand as numbers in one list: a board that
+// discovery skipped is one more than a board's number can be, and an attenuation is its place among the choices.
 const FORMS: [(Spelling, u64); KEY_COUNT] = [
     (Spelling::Number, MOST_BUFFER),
     (Spelling::Waiting, MOST_NUMBERS as u64),
@@ -51,8 +43,8 @@ const FORMS: [(Spelling, u64); KEY_COUNT] = [
     (Spelling::Double, u64::MAX),
     (Spelling::Number, u16::MAX as u64),
     (Spelling::Address, u32::MAX as u64),
-    (Spelling::Board, SKIPPED),
-    (Spelling::Attenuation, UNSAID),
+    (Spelling::Board, u8::MAX as u64 + 1),
+    (Spelling::Attenuation, 2),
     (Spelling::Reading, u64::MAX),
     (Spelling::Reading, u64::MAX),
     (Spelling::Number, u64::MAX),
@@ -82,16 +74,15 @@ fn board(w: &[u8]) -> Option<u64>
     ensures { result ≡ Option.board w.now }
 {
     if w == b"skipped".as_slice() {
-        return Some(SKIPPED);
+        return Some(u8::MAX as u64 + 1);
     }
-    number(w, 255)
+    number(w, u8::MAX as u64)
 }
 
 fn attenuation(w: &[u8]) -> Option<u64>
     ensures { result ≡ Option.attenuation w.now }
 {
-    let place = text::place_of(w, b"off on unsaid")?;
-    Some(place as u64)
+    Some(text::place_of(w, &CHOICES)? as u64)
 }
 
 fn spelt_as(how: Spelling, w: &[u8], numbers: &mut [u32]) -> Option<u64>
@@ -150,39 +141,32 @@ fn take_option(
     Ok(())
 }
 
-// A run of words: what it came to, and where it stopped.
+// A run of words: what it came to, and what is left, from the word on at which it stopped.
 #[derive(Clone, Copy)]
-pub(crate) struct Run {
+pub(crate) struct Run<'a> {
     pub(crate) took: Result<(), Untaken>,
-    pub(crate) at: usize,
+    pub(crate) left: &'a [u8],
 }
 
-// The words of s from `start` on. It goes by their places, since where a run stops is told, and `split` gives no places.
-pub(crate) fn options(
-    s: &[u8],
-    start: usize,
+// The words of s. It goes from word to word, since what is left where a run stops is told.
+pub(crate) fn options<'a>(
+    s: &'a [u8],
     from: usize,
     to: usize,
     values: &mut [Option<u64>],
     numbers: &mut [u32],
-) -> Run
-    requires { (start ≤ length s.now) × (to ≤ key_count) × (key_count ≤ length values.old) × (most_numbers ≤ length numbers.old) }
-    ensures { Option.Ran from to values.old numbers.old (words (drop start s.now)) result.took
-        values.new numbers.new × Option.Stopped from to s.now values.old
-        (words (drop start s.now)) result.at }
+) -> Run<'a>
+    requires { (to ≤ key_count) × (key_count ≤ length values.old) × (most_numbers ≤ length numbers.old) }
+    ensures { Option.Ran from to values.old numbers.old (words s.now) result.took values.new numbers.new ×
+        (words result.left.now ≡ Option.options_rest from to values.old (words s.now)) }
 {
-    let mut at = start;
-    loop {
-        let word = text::word_at(s, at);
-        let from_word = word.start;
-        let end = word.end;
-        if from_word == end {
-            return Run { took: Ok(()), at };
-        }
-        let took = take_option(&s[from_word..end], from, to, &mut *values, &mut *numbers);
+    let mut left = s;
+    while let Some((word, rest)) = text::split_word(left) {
+        let took = take_option(word, from, to, &mut *values, &mut *numbers);
         if took.is_err() {
-            return Run { took, at };
+            return Run { took, left };
         }
-        at = end;
+        left = rest;
     }
+    Run { took: Ok(()), left }
 }

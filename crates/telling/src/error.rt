@@ -2,7 +2,6 @@
 use console::output::Output;
 use lines::key::KEYS;
 use lines::{Expected, LONGEST, first_word, found};
-use text::Word;
 
 // As CALLS.md has it.
 fn put_expected(out: &mut Output, e: Expected) {
@@ -67,17 +66,10 @@ fn stands(out: &mut Output, word: &[u8]) {
 }
 
 // Of a call where there is no session, its name.
-fn word_of(line: &[u8], e: Expected) -> Word {
+fn word_of(line: &[u8], e: Expected) -> &[u8] {
     match e {
         Expected::Open => first_word(line),
         _ => found(line),
-    }
-}
-
-fn put_word(out: &mut Output, line: &[u8], e: Expected) {
-    let word = word_of(line, e);
-    if let Some(word) = line.get(word.start..word.end) {
-        stands(out, word);
     }
 }
 
@@ -85,7 +77,7 @@ fn put_found(out: &mut Output, line: &[u8], e: Expected, stretches: usize) {
     match e {
         Expected::ShorterLine => out.filled(b"more than # octets", &[LONGEST as u64]),
         Expected::FewerStretches => out.number(stretches as u64),
-        _ => put_word(out, line, e),
+        _ => stands(out, word_of(line, e)),
     }
 }
 

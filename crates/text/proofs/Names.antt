@@ -10,10 +10,9 @@ use Rattle.std.specs.Prelude.{cond, Some, None}
 use Rattle.std.specs.Str.{bytes_eq}
 use Rattle.std.proofs.lemmas.Bool.Decides.{Decides-eqb}
 use Rattle.std.proofs.lemmas.Slice.Eq.{slice_eq-Decides}
-use lib.ListN.{length, drop}
-use Rattle.text.specs.Split.{words, part, WordAt}
+use lib.ListN.{length}
+use Rattle.text.specs.Split.{words, FirstWord}
 use Rattle.text.specs.Name.{same, place, found}
-use Rattle.text.proofs.Splits.{no_word, one_word}
 
 pub same_self : (a : List ℕ) → same a a ≡ true
 unfolding same
@@ -74,31 +73,29 @@ module _ (w : List ℕ) (ws : List (List ℕ)) where
       go true t e = let z : ◌≡◌ {A = ℕ} 0 1 = cc in absurd (omega arith)
       go false t e = ltb-false (place w ws) (length ws) t
 
--- k names before at were none of them w
-abbrev pub Sought : List ℕ → List ℕ → ℕ → ℕ → Type 0
-Sought w s at k = (at ≤ length s) × (k ≤ at) × (place w (words s) ≡ k + place w (words (drop at s))) × (length (words s) ≡ k + length (words (drop at s)))
+-- k names before what is left were none of them w
+abbrev pub Sought : List ℕ → List ℕ → List ℕ → ℕ → Type 0
+Sought w s left k = (k + length left ≤ length s) × (place w (words s) ≡ k + place w (words left)) × (length (words s) ≡ k + length (words left))
 
-module _ (w s : List ℕ) (at k start end : ℕ) (i : Sought w s at k) (h : WordAt s at start end) where
-  pub not_there : start ≡ end → None ≡ found w (words s)
+module _ (w s left : List ℕ) (k : ℕ) (i : Sought w s left k) where
+  pub not_there : words left ≡ [] → None ≡ found w (words s)
   unfolding place
-  not_there e =
-      let q = no_word s at start end h e in
-      let m : place w (words (drop at s)) ≡ 0 = rw q in
-      let l : length (words (drop at s)) ≡ 0 = rw q in
-      not-found w (words s) (omega (arith, i.2, i.3, m, l))
+  not_there q =
+      let m : place w (words left) ≡ 0 = rw q in
+      let l : length (words left) ≡ 0 = rw q in
+      not-found w (words s) (omega (arith, i.1, i.2, m, l))
 
-  pub there : (start ≡ end → ⊥) → part s start end ≡ w → Some k ≡ found w (words s)
-  unfolding place
-  there n e =
-      let q = one_word s at start end h n in
-      let m : place w (words (drop at s)) ≡ 0 = rw (q, e, same_self w) in
-      let l : length (words (drop at s)) ≡ suc (length (words (drop end s))) = rw q in
-      found-here w (words s) k (omega (arith, i.2, m)) (omega (arith, i.3, l))
+  module _ (name rest : List ℕ) (f : FirstWord left name rest) where
+    pub there : name ≡ w → Some k ≡ found w (words s)
+    unfolding place
+    there e =
+        let m : place w (words left) ≡ 0 = rw (f.reads, e, same_self w) in
+        let l : length (words left) ≡ suc (length (words rest)) = rw f.reads in
+        found-here w (words s) k (omega (arith, i.1, m)) (omega (arith, i.2, l))
 
-  pub go_on : (start ≡ end → ⊥) → (part s start end ≡ w → ⊥) → Sought w s end (k + 1)
-  unfolding place
-  go_on n e =
-      let q = one_word s at start end h n in
-      let m : place w (words (drop at s)) ≡ suc (place w (words (drop end s))) = rw (q, same_false (part s start end) w e) in
-      let l : length (words (drop at s)) ≡ suc (length (words (drop end s))) = rw q in
-      (h.within, omega (arith, h.from, h.ordered, i.1), omega (arith, i.2, m), omega (arith, i.3, l))
+    pub go_on : (name ≡ w → ⊥) → Sought w s rest (k + 1)
+    unfolding place
+    go_on e =
+        let m : place w (words left) ≡ suc (place w (words rest)) = rw (f.reads, same_false name w e) in
+        let l : length (words left) ≡ suc (length (words rest)) = rw f.reads in
+        (omega (arith, f.shorter, i.0), omega (arith, i.1, m), omega (arith, i.2, l))

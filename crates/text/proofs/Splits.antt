@@ -7,7 +7,7 @@ use native.Mathlib.Omega.{arith}
 use lib.ListN.{length, take, drop, length-take, length-drop, take-append-drop, drop_of_length-le}
 use lib.Seq.{drop-drop, take_all, take-append-le, drop-append-le}
 use Rattle.text.specs.Run.{run}
-use Rattle.text.specs.Split.{grown, parts, not_empty, blank, filled, words, before, part, WordAt}
+use Rattle.text.specs.Split.{grown, parts, not_empty, blank, filled, words, FirstWord}
 
 module _ (p : ℕ → Bool) where
   abbrev others : ℕ → Bool
@@ -81,73 +81,37 @@ unfolding words
 first_word s = ap not_empty (first_part blank s) ∙ not-empty-joined _ _ ∙ ap (joined (take (run filled s) s)) (after-word s)
 
 -- of a text without blanks in front
-joined-before : (s : List ℕ) (n : ℕ) → (n ≡ 0 → s ≡ []) → n ≤ length s → joined (take n s) (words (drop n s)) ≡ before (take n s) (words (drop n s))
-unfolding joined before words not_empty parts
-joined-before [] n h l = rw (let z : n ≡ 0 = omega arith in z)
-joined-before (x ∷ xs) zero h l = let z : ◌≡◌ {A = ℕ} (suc (length xs)) 0 = ap length (h refl) in absurd (omega arith)
-joined-before (x ∷ xs) (suc n) h l = refl
+joined-one : (s : List ℕ) (n : ℕ) (ws : List (List ℕ)) → (length s ≡ 0 → ⊥) → (n ≡ 0 → ⊥) → joined (take n s) ws ≡ take n s ∷ ws
+unfolding joined
+joined-one [] n ws h l = absurd (h refl)
+joined-one (x ∷ xs) zero ws h l = absurd (l refl)
+joined-one (x ∷ xs) (suc n) ws h l = refl
 
-pub word_at : (s : List ℕ) (at start end : ℕ) → at ≤ length s → start ≡ at + run blank (drop at s) → end ≡ start + run filled (drop start s)
-    → start ≤ length s → end ≤ length s → WordAt s at start end
-word_at s at start end l b e m n =
-    let d = drop at s in
-    let w = drop start s in
-    let k = run filled w in
-    let i : drop (run blank d) d ≡ w = drop-drop (run blank d) at s ∙ ap (λ (j : ℕ). drop j s) (sym b) in
-    let o : drop k w ≡ drop end s = drop-drop k start s ∙ ap (λ (j : ℕ). drop j s) (sym e) in
-    let q : k ≡ end - start = omega arith in
-    let none : k ≡ 0 → w ≡ [] = λ z. sym i ∙ stops blank d (ap (run filled) i ∙ z) in
-    record {
-      starts = omega arith;
-      ends = e;
-      from = omega arith;
-      ordered = omega arith;
-      within = n;
-      reads =
-          sym (skip-blanks d)
-          ∙ ap words i
-          ∙ first_word w
-          ∙ joined-before w k none (omega (arith, length-drop start s))
-          ∙ ap (λ (l : List ℕ). before (take k w) (words l)) o
-          ∙ ap (λ (j : ℕ). before (take j w) (words (drop end s))) q;
-    }
+empty : (s : List ℕ) → length s ≡ 0 → s ≡ []
+empty [] h = refl
+empty (x ∷ xs) h = absurd (omega arith)
 
--- past the text no word is left
-pub no-word-past : (s : List ℕ) (at : ℕ) → length s < at → WordAt s at (length s) (length s)
-unfolding before words parts not_empty run
-no-word-past s at h =
-    let none : drop at s ≡ [] = drop_of_length-le s {i = at} (omega arith) in
-    let end : drop (length s) s ≡ [] = drop_of_length-le s {i = length s} (omega arith) in
-    record {
-      starts = rw none (omega arith);
-      ends = rw end (omega arith);
-      from = omega arith;
-      ordered = omega arith;
-      within = omega arith;
-      reads = rw (none, end, let z : length s - length s ≡ 0 = omega arith in z) refl;
-    }
+module _ (s : List ℕ) where
+  pub no_word : length (drop (run blank s) s) ≡ 0 → words s ≡ []
+  unfolding words parts not_empty
+  no_word h = sym (skip-blanks s) ∙ ap words (empty _ h)
+
+  module _ (left : List ℕ) (e : left ≡ drop (run blank s) s) (h : length left ≡ 0 → ⊥) where
+    pub one_word : (n : ℕ) → n ≡ run filled left → n ≤ length left → FirstWord s (take n left) (drop n left)
+    one_word n k l =
+        let some : n ≡ 0 → ⊥ = λ z. h (ap length (e ∙ stops blank s (sym (ap (run filled) e) ∙ sym k ∙ z))) in
+        record {
+          cut = sym e ∙ sym (take-append-drop n left);
+          ends = omega (arith, length-take n left, k, ap (run filled) e);
+          shorter = omega (arith, length-drop n left, ap length e, length-drop (run blank s) s, some);
+          reads =
+              sym (skip-blanks s)
+              ∙ ap words (sym e)
+              ∙ first_word left
+              ∙ ap (λ (i : ℕ). joined (take i left) (words (drop i left))) (sym k)
+              ∙ joined-one left n (words (drop n left)) h some;
+        }
 
 -- a part that is lent up to the end of the text
 pub to_the_end : (s : List ℕ) (at : ℕ) → take (length s - at) (drop at s) ≡ drop at s
 to_the_end s at = take_all (length s - at) (drop at s) (omega (arith, length-drop at s))
-
-module _ (s : List ℕ) (at start end : ℕ) (w : WordAt s at start end) where
-  pub no_word : start ≡ end → words (drop at s) ≡ []
-  unfolding before
-  no_word e = w.reads ∙ rw (let z : end - start ≡ 0 = omega arith in z)
-
-  pub one_word : (start ≡ end → ⊥) → words (drop at s) ≡ part s start end ∷ words (drop end s)
-  unfolding before
-  one_word n = w.reads ∙ go (part s start end) (λ e. n (omega (arith, ap length e, length-take (end - start) (drop start s), length-drop start s, w.ordered, w.within)))
-    where
-      go : (v : List ℕ) → (v ≡ [] → ⊥) → before v (words (drop end s)) ≡ v ∷ words (drop end s)
-      go [] h = absurd (h refl)
-      go (x ∷ xs) h = refl
-
--- a part of a text's front is one of the text
-pub part-front : (s : List ℕ) (n a e : ℕ) → a ≤ e → e ≤ length (take n s) → part s a e ≡ part (take n s) a e
-part-front s n a e o h =
-    let f = take n s in
-    ap (λ (l : List ℕ). part l a e) (sym (take-append-drop n s))
-    ∙ ap (take (e - a)) (drop-append-le a f (drop n s) (omega arith))
-    ∙ take-append-le (e - a) (drop a f) (drop n s) (simp length-drop (omega arith))

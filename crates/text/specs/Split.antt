@@ -1,5 +1,5 @@
 -- A text in parts, and its words. Definitions only.
-use Rattle.std.specs.Prelude.{ℕ, ◌+◌, ◌-◌, ◌≤◌, min, ◌≡◌, Bool, not, cond, ◌||◌, List, [], ◌∷◌, eqb, length, take, drop}
+use Rattle.std.specs.Prelude.{ℕ, ◌<◌, ◌≡◌, Bool, not, cond, ◌||◌, List, [], ◌∷◌, ◌++◌, eqb, length, drop}
 use Rattle.text.specs.Run.{run}
 
 -- x before the first part
@@ -27,21 +27,9 @@ filled x = not (blank x)
 unfoldable pub words : List ℕ → List (List ℕ)
 words s = not_empty (parts blank s)
 
--- a word and those after it; an empty one says that none is left
-unfoldable pub before : List ℕ → List (List ℕ) → List (List ℕ)
-before [] ws = []
-before (x ∷ xs) ws = (x ∷ xs) ∷ ws
-
--- the elements from a to e
-abbrev pub part : List ℕ → ℕ → ℕ → List ℕ
-part s a e = take (e - a) (drop a s)
-
--- of what s has from at on, the first word is that from start to end: behind the blanks, as far as no blank stands. Where none is
--- left both are the text's end
-pub record WordAt (s : List ℕ) (at start end : ℕ) : Type 0 where
-  pub starts : start ≡ min at (length s) + run blank (drop at s)
-  pub ends : end ≡ start + run filled (drop start s)
-  pub from : min at (length s) ≤ start
-  pub ordered : start ≤ end
-  pub within : end ≤ length s
-  pub reads : words (drop at s) ≡ before (part s start end) (words (drop end s))
+-- the first word of a text: behind its blanks, as far as no blank stands. The rest follows it
+pub record FirstWord (s word rest : List ℕ) : Type 0 where
+  pub cut : drop (run blank s) s ≡ word ++ rest
+  pub ends : length word ≡ run filled (drop (run blank s) s)
+  pub shorter : length rest < length s
+  pub reads : words s ≡ word ∷ words rest

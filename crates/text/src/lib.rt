@@ -1,10 +1,10 @@
 // Words and numbers in a slice of text. Every function is total: a caller goes on with the part of the slice that is left.
 #![tactic(auto)]
 
-ghost use Rattle.std.specs.Prelude.{◌≡◌, ◌≤◌, true, length};
+ghost use Rattle.std.specs.Prelude.{◌≡◌, ◌≤◌, true, [], length, MatchOption};
 ghost use Rattle.text.specs.Run.{run, is, other};
 ghost use Rattle.text.specs.Number.{digit_of, digits_of, is_hex, number_of};
-ghost use Rattle.text.specs.Split.{blank, filled, words, WordAt};
+ghost use Rattle.text.specs.Split.{blank, filled, words, FirstWord};
 ghost use Rattle.text.specs.Name.{found};
 
 // How many octets at the front of s equal b.
@@ -40,23 +40,15 @@ fn find_blank(s: &[u8]) -> usize
     s.iter().position(|x| is_blank(*x)).unwrap_or(s.len())
 }
 
-#[derive(Clone, Copy)]
-pub struct Word {
-    pub start: usize,
-    pub end: usize,
-}
-
-// The first word from `at` on; it starts and ends at the end of s if none is left.
-pub fn word_at(s: &[u8], at: usize) -> Word
-    ensures { WordAt s.now at result.start result.end }
+// The first word of s, and what follows it; none where no word is left.
+pub fn split_word(s: &[u8]) -> Option<(&[u8], &[u8])>
+    ensures { MatchOption result (words s.now ≡ []) (λ p. FirstWord s.now p.0.now p.1.now) }
 {
-    let n = s.len();
-    if n < at {
-        return Word { start: n, end: n };
+    let left = &s[past_blanks(s)..];
+    if left.is_empty() {
+        return None;
     }
-    let start = at + past_blanks(&s[at..]);
-    let end = start + find_blank(&s[start..]);
-    Word { start, end }
+    Some(left.split_at(find_blank(left)))
 }
 
 // The place of w among names with blanks between them. It goes from word to word: `split` gives an empty part
@@ -64,21 +56,16 @@ pub fn word_at(s: &[u8], at: usize) -> Word
 pub fn place_of(w: &[u8], names: &[u8]) -> Option<usize>
     ensures { result ≡ found w.now (words names.now) }
 {
-    let mut at = 0;
+    let mut left = names;
     let mut k = 0;
-    loop {
-        let word = word_at(names, at);
-        let start = word.start;
-        let end = word.end;
-        if start == end {
-            return None;
-        }
-        if &names[start..end] == w {
+    while let Some((name, rest)) = split_word(left) {
+        if name == w {
             return Some(k);
         }
-        at = end;
+        left = rest;
         k += 1;
     }
+    None
 }
 
 // The value of a digit, 0 to 9, a to f and A to F, and 16 of what is none. That is a number too, and no `None`, since `digits` goes by it

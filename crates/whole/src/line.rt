@@ -4,9 +4,7 @@ use super::tell::too_long;
 use batch::list::List;
 use console::output::Output;
 use desk::desk::{Desk, Request};
-use desk::line::Asked;
-use lines::{Expected, Read, read_call};
-use std::num::wrapping_add_u64;
+use lines::{Asked, Expected, Read, read_call};
 
 // A call of the session in hand. There has to be one, and its settings have to be accepted.
 fn gather(
@@ -18,7 +16,7 @@ fn gather(
     out: &mut Output,
 ) {
     match sitting {
-        Some(sitting) if d.is_open => {
+        Some(sitting) if d.radio.is_some() => {
             d.asks = Request::Nothing;
             if list.add(asked).is_err() {
                 too_long(d, sitting, out);
@@ -37,15 +35,7 @@ fn read_line(
     out: &mut Output,
 ) {
     let mut asked = Asked::new();
-    let read = read_call(
-        line,
-        d.ip,
-        d.port,
-        &mut asked.call,
-        &mut asked.octets,
-        &mut asked.numbers,
-    );
-    match read {
+    match read_call(line, d.radio.unwrap_or_default(), &mut asked) {
         Ok(Read::Nothing | Read::State | Read::Radio) => d.asks = Request::Nothing,
         Ok(Read::Open) => d.read_open(line, out),
         Ok(Read::Call) => gather(d, line, &asked, sitting, list, out),
@@ -63,7 +53,7 @@ pub(crate) fn read(
 ) {
     match line {
         Some(line) => {
-            d.line = wrapping_add_u64(d.line, 1);
+            d.line = d.line.wrapping_add(1);
             read_line(d, line, sitting, list, out);
         }
         None => {

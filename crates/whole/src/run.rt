@@ -4,13 +4,11 @@ use super::sessions;
 use super::tell::tell;
 use batch::list::List;
 use batch::replies::Answers;
-use console::input::{Input, Next, ROOM as INPUT};
 use console::output::Output;
 use desk::desk::{Desk, Flags, Request};
 use lines::{Opening, read_open};
 use opening::settings::{refusal, validate_protocol2};
 use std::io::{Error, Read};
-use std::num::wrapping_add_u64;
 use telling::error;
 
 // The session in hand: the number of its `open`, and what that line says.
@@ -23,8 +21,8 @@ pub(crate) struct Sitting {
 // By the line in hand, whose first word is `open`. Where its settings are refused no call is gathered.
 fn opened(d: &mut Desk, line: &[u8], list: &mut List) -> Sitting {
     let opening = read_open(line);
-    let settings = opening.settings;
-    d.is_open = refusal(validate_protocol2(settings)) == 0;
+    let refused = refusal(validate_protocol2(opening.settings));
+    d.radio = (refused == 0).then_some(opening.radio());
     list.clear();
     Sitting {
         line: d.line,
@@ -43,43 +41,41 @@ fn run_session(d: &mut Desk, sitting: Sitting, list: &List, out: &mut Output) {
 fn end(d: &Desk, fault: Option<Error>, out: &mut Output) {
     if let Some(error) = fault {
         out.tell_fault(b"standard input", error);
-        error::unread(out, wrapping_add_u64(d.line, 1));
+        error::unread(out, d.line.wrapping_add(1));
     }
     out.finish();
 }
 
-// A proved loop has to end, and nothing says that an input does: it has more turns than any run takes.
-fn run_lines<R: Read>(from: &mut R, text: &mut [u8; INPUT], list: &mut List, out: &mut Output) {
+// The line in hand. An `open` and the end run the session before, and an `open` has a session of its own then.
+fn run_line(
+    d: &mut Desk,
+    line: Option<&[u8]>,
+    sitting: Option<Sitting>,
+    list: &mut List,
+    out: &mut Output,
+) -> Option<Sitting> {
+    read(d, line, sitting, list, out);
+    if let (Request::Open(_) | Request::End, Some(sitting)) = (d.asks, sitting) {
+        run_session(d, sitting, list, out);
+    }
+    match (d.asks, line) {
+        (Request::Open(_), Some(line)) => Some(opened(d, line, list)),
+        _ => sitting,
+    }
+}
+
+fn run_lines<R: Read>(from: &mut R, list: &mut List, out: &mut Output) {
     let mut sitting = None;
     let mut d = Desk::new(Flags::default());
-    let mut input = Input::new();
-    for _ in 0..u64::MAX {
-        if !d.goes_on(&input, out) {
-            break;
-        }
-        let line = match input.next(text) {
-            Next::Line(line) | Next::TooLong(line) => Some(line),
-            Next::Over => None,
-            Next::Cut => {
-                input.read_on(from, text, out);
-                continue;
-            }
-        };
-        read(&mut d, line, sitting, list, out);
-        if let (Request::Open | Request::End, Some(sitting)) = (d.asks, sitting) {
-            run_session(&mut d, sitting, list, out);
-        }
-        if let (Request::Open, Some(line)) = (d.asks, line) {
-            sitting = Some(opened(&mut d, line, list));
-        }
-    }
-    end(&d, input.fault(), out)
+    let fault = d.run_lines(from, out, |d, line, out| {
+        sitting = run_line(d, line, sitting, list, out);
+    });
+    end(&d, fault, out)
 }
 
 // Runs the list of standard input.
 pub(crate) fn run(rt: &HostRuntime) {
-    let mut text = [0u8; INPUT];
     let mut list = List::new();
     let mut out = Output::new(rt.stdout(), rt.stderr());
-    run_lines(&mut rt.stdin(), &mut text, &mut list, &mut out)
+    run_lines(&mut rt.stdin(), &mut list, &mut out)
 }

@@ -8,14 +8,14 @@ use Rattle.std.proofs.lemmas.Slice.Eq.{slice_eq-Decides}
 use Rattle.text.proofs.Names.{not_there, there, go_on}
 use Rattle.text.proofs.place_of.Goals as goal
 
-pub loop-w-init : goal.loop-w-init
-loop-w-init c = (search rules, search rules, sym (zero-add _), sym (zero-add _))
-
-pub returns-then-start-end : goal.returns-then-start-end
-returns-then-start-end c = not_there _ _ _ _ _ _ c.loop-w.invariant c.word_at-word.ensures c.if-start-end.true
+pub loop-name-init : goal.loop-name-init
+loop-name-init c = (search rules, sym (zero-add _), sym (zero-add _))
 
 pub returns-then-eq : goal.returns-then-eq
-returns-then-eq c = there _ _ _ _ _ _ c.loop-w.invariant c.word_at-word.ensures c.if-start-end.false ((slice_eq-Decides Decides-eqb _ _ _ c.eq.ensures).0 c.if-eq.true)
+returns-then-eq c = there _ _ _ _ c.loop-name.invariant _ _ c.in-Some.ensures ((slice_eq-Decides Decides-eqb _ _ _ c.eq.ensures).0 c.if-eq.true)
 
-pub loop-w-preserved : goal.loop-w-preserved
-loop-w-preserved c = go_on _ _ _ _ _ _ c.loop-w.invariant c.word_at-word.ensures c.if-start-end.false (λ e. true≢false (sym ((slice_eq-Decides Decides-eqb _ _ _ c.eq.ensures).1 e) ∙ c.if-eq.false))
+pub loop-name-preserved : goal.loop-name-preserved
+loop-name-preserved c = go_on _ _ _ _ c.loop-name.invariant _ _ c.in-Some.ensures (λ e. true≢false (sym ((slice_eq-Decides Decides-eqb _ _ _ c.eq.ensures).1 e) ∙ c.if-eq.false))
+
+pub returns : goal.returns
+returns c = not_there _ _ _ _ c.loop-name.invariant c.in_default.ensures

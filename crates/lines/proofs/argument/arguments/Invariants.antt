@@ -1,7 +1,7 @@
 -- `lines::argument::arguments` reads the words of a form one by one. Assumes nothing.
-use Rattle.lines.specs.Argument.{form}
+use Rattle.lines.specs.Name.{form}
 use Rattle.lines.proofs.Fillings.{Filling}
 use Rattle.lines.proofs.argument.arguments.Given as goal
 
 abbrev pub invariant-loop-j : goal.invariant-loop-j
-invariant-loop-j l = Filling (form l.name) l.s l.initial.values l.initial.room l.start l.at l.j l.values l.room
+invariant-loop-j l = Filling (form l.fn.name).words l.fn.s l.initial.values l.initial.room l.left l.j l.values l.room

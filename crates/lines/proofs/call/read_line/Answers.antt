@@ -1,41 +1,30 @@
 -- `lines::call::read_line` reads the name, then the call. Assumes nothing.
-use mathlib.Core.Path.{◌≡◌, refl, sym, ◌∙◌}
+use mathlib.Core.Path.{◌≡◌, sym, ◌∙◌}
 use native.Mathlib.Omega.{arith}
 use Rattle.std.specs.Prelude.{Some, None, Err}
 use Rattle.std.proofs.lemmas.Grind.{common_steps}
 use Rattle.lines.specs.declared.Expected.TheVariants.{Call}
-use lib.Seq.{length-take-le}
-use borrow.Author.Rules.{rules}
-use Rattle.lines.proofs.Names.{name-found, no-name-found}
 use Rattle.lines.proofs.Calls.{too_long, nothing, opens, not-a-call, called}
 use Rattle.lines.proofs.call.read_line.Goals as goal
 
 pub returns-then-line-gt-LONGEST : goal.returns-then-line-gt-LONGEST
-returns-then-line-gt-LONGEST c = too_long _ _ _ _ _ _ c.if-line-gt-LONGEST.true
+returns-then-line-gt-LONGEST c = too_long _ _ _ c.if-line-gt-LONGEST.true
 
-pub returns-then-first-end : goal.returns-then-first-end
-returns-then-first-end c = nothing _ _ _ _ _ _ c.if-line-gt-LONGEST.false _ c.begins-first.ensures.cut _ _ c.begins-first.ensures.word c.if-first-end.true
-
-pub returns-then-name-eq-OPEN : goal.returns-then-name-eq-OPEN
-returns-then-name-eq-OPEN c =
-    let k : c.begins-first.result.name ≡ Some c.in_ok-name.name = grind (arith, common_steps) in
-    opens _ _ _ _ _ _ c.if-line-gt-LONGEST.false _ c.begins-first.ensures.cut _ _ c.begins-first.ensures.word c.if-first-end.false _ (name-found _ _ (sym c.begins-first.ensures.named ∙ k)).0 c.if-name-eq-OPEN.true
+pub returns-in_default : goal.returns-in_default
+returns-in_default c = nothing _ _ _ c.if-line-gt-LONGEST.false c.in_default.ensures
 
 pub returns-in_err-name : goal.returns-in_err-name
 returns-in_err-name c =
-    let n : c.begins-first.result.name ≡ None = grind (arith, common_steps) in
+    let n : c.in-Some.first.name ≡ None = grind (arith, common_steps) in
     let e : c.from_residual.result ≡ Err Call = grind (arith, common_steps) in
-    rw e (not-a-call _ _ _ _ _ _ c.if-line-gt-LONGEST.false _ c.begins-first.ensures.cut _ _ c.begins-first.ensures.word c.if-first-end.false _ refl (no-name-found _ (sym c.begins-first.ensures.named ∙ n)))
+    rw e (not-a-call _ _ _ c.if-line-gt-LONGEST.false _ _ _ c.in-Some.ensures n)
 
-pub read_named-requires : goal.read_named-requires
-read_named-requires c =
-    let k : c.begins-first.result.name ≡ Some c.in_ok-name.name = grind (arith, common_steps) in
-    (c.begins-first.ensures.word.within, (name-found _ _ (sym c.begins-first.ensures.named ∙ k)).1, search rules, search rules)
-
-pub slice_bounds-s-end : goal.slice_bounds-s-end
-slice_bounds-s-end c = sym (length-take-le c.begins-first.result.text c.args.line.now c.begins-first.ensures.within)
+pub returns-then-eq : goal.returns-then-eq
+returns-then-eq c =
+    let k : c.in-Some.first.name ≡ Some c.in_ok-name.name = grind (arith, common_steps) in
+    opens _ _ _ c.if-line-gt-LONGEST.false _ _ _ c.in-Some.ensures _ k (sym c.eq.ensures ∙ c.if-eq.true)
 
 pub returns : goal.returns
 returns c =
-    let k : c.begins-first.result.name ≡ Some c.in_ok-name.name = grind (arith, common_steps) in
-    called _ _ _ _ _ _ c.if-line-gt-LONGEST.false _ c.begins-first.ensures.cut _ _ c.begins-first.ensures.word c.if-first-end.false _ (name-found _ _ (sym c.begins-first.ensures.named ∙ k)).0 c.if-name-eq-OPEN.false (name-found _ _ (sym c.begins-first.ensures.named ∙ k)).1 _ _ _ _ c.read_named.ensures
+    let k : c.in-Some.first.name ≡ Some c.in_ok-name.name = grind (arith, common_steps) in
+    called _ _ _ c.if-line-gt-LONGEST.false _ _ _ c.in-Some.ensures _ k (sym c.eq.ensures ∙ c.if-eq.false) _ _ c.read_named.ensures

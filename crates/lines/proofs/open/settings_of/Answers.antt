@@ -1,6 +1,6 @@
 -- `lines::open::settings_of` takes each setting from its key. Assumes nothing.
 use native.Mathlib.Omega.{arith}
-use Rattle.lines.specs.Key.{port_key, radio_key, board_key, malformed_key}
+use Rattle.lines.specs.Key.{port_key, radio_key, malformed_key}
 use Rattle.lines.specs.Open.{settings_of}
 use Rattle.lines.proofs.Bounds.{or-else-most}
 use Rattle.lines.proofs.Openings.{rate-bits, centre-bits}
@@ -11,9 +11,6 @@ overflow_cast-port c = omega (arith, c.or_else-port.ensures, or-else-most c.args
 
 pub overflow_cast-radio_ip : goal.overflow_cast-radio_ip
 overflow_cast-radio_ip c = omega (arith, c.or_else-radio_ip.ensures, or-else-most c.args.keys.now radio_key 167772162 4294967295 (c.requires.1 radio_key (omega arith)) (omega arith))
-
-pub board_of-board-requires : goal.board_of-board-requires
-board_of-board-requires c = omega (arith, c.or_else.ensures, or-else-most c.args.keys.now board_key 1 256 (c.requires.1 board_key (omega arith)) (omega arith))
 
 pub overflow_cast-max_consecutive_malformed : goal.overflow_cast-max_consecutive_malformed
 overflow_cast-max_consecutive_malformed c = omega (arith, c.or_else-max_consecutive_malformed.ensures, or-else-most c.args.keys.now malformed_key 10000 4294967295 (c.requires.1 malformed_key (omega arith)) (omega arith))
@@ -31,7 +28,6 @@ returns c =
       c.board_of-board.ensures,
       c.or_else.ensures,
       c.choice_of-attenuation.ensures,
-      c.or_else-2.ensures,
       c.or_else-soft_after.ensures,
       c.or_else-stall_after.ensures,
       c.or_else-park_window.ensures,

@@ -6,10 +6,10 @@ use Rattle.text.specs.Name.{found}
 use Rattle.lines.proofs.Names.{attenuation-names, attenuation-found, no-attenuation}
 use Rattle.lines.proofs.option.attenuation.Goals as goal
 
-pub returns-in_err-place : goal.returns-in_err-place
-returns-in_err-place c =
+pub returns-in_err-place_of : goal.returns-in_err-place_of
+returns-in_err-place_of c =
     let e : c.from_residual.result ≡ None = search rules in
-    e ∙ no-attenuation _ (sym (c.place_of.ensures ∙ ap (found c.args.w.now) attenuation-names) ∙ c.in_err-place.was)
+    e ∙ no-attenuation _ (sym (c.place_of.ensures ∙ ap (found c.args.w.now) attenuation-names) ∙ c.in_err-place_of.was)
 
 pub returns : goal.returns
-returns c = attenuation-found _ _ (sym (c.place_of.ensures ∙ ap (found c.args.w.now) attenuation-names) ∙ c.in_ok-place.was)
+returns c = attenuation-found _ _ (sym (c.place_of.ensures ∙ ap (found c.args.w.now) attenuation-names) ∙ c.in_ok-place_of.was)

@@ -1,21 +1,15 @@
 -- `lines::stops::found_in` reads the name, then the words behind it. Assumes nothing.
-use mathlib.Core.Path.{refl, sym, ◌∙◌}
-use lib.Seq.{length-take-le}
-use Rattle.lines.proofs.Names.{name-found, no-name-found}
-use Rattle.lines.proofs.Rests.{no_words, no_name, after-name}
+use Rattle.lines.proofs.Rests.{no_words, no_name, after-name, at-end}
 use Rattle.lines.proofs.stops.found_in.Goals as goal
 
-pub returns-then-start-end : goal.returns-then-start-end
-returns-then-start-end c = no_words _ _ c.begins-first.ensures.cut _ _ c.begins-first.ensures.word c.if-start-end.true
-
 pub returns-in_default : goal.returns-in_default
-returns-in_default c = no_name _ _ c.begins-first.ensures.cut _ _ c.begins-first.ensures.word c.if-start-end.false _ refl (no-name-found _ (sym c.begins-first.ensures.named ∙ c.in_default.is))
+returns-in_default c = no_words _ c.in_default.ensures
 
-pub stop-requires : goal.stop-requires
-stop-requires c = (c.begins-first.ensures.word.within, (name-found _ _ (sym c.begins-first.ensures.named ∙ c.in-Some.is)).1)
+pub returns-in_default-name : goal.returns-in_default-name
+returns-in_default-name c = no_name _ _ _ _ c.in-Some.ensures c.in_default-name.is
 
-pub slice_bounds-s-end : goal.slice_bounds-s-end
-slice_bounds-s-end c = sym (length-take-le c.begins-first.result.text c.args.line.now c.begins-first.ensures.within)
+pub returns-in-None : goal.returns-in-None
+returns-in-None c = at-end _ _ _ _ c.in-Some.ensures _ c.in-Some-name.is _ c.unread.ensures c.in-None.ensures
 
-pub returns : goal.returns
-returns c = after-name _ _ c.begins-first.ensures.cut _ _ c.begins-first.ensures.word c.if-start-end.false _ (name-found _ _ (sym c.begins-first.ensures.named ∙ c.in-Some.is)).0 (name-found _ _ (sym c.begins-first.ensures.named ∙ c.in-Some.is)).1 _ _ _ c.stop.ensures.1 c.word_at.ensures
+pub returns-in-Some-split_word : goal.returns-in-Some-split_word
+returns-in-Some-split_word c = after-name _ _ _ _ c.in-Some.ensures _ c.in-Some-name.is _ c.unread.ensures _ _ c.in-Some-split_word.ensures
