@@ -4,7 +4,7 @@ use super::replies::{Answers, behind, eight_at};
 use console::output::Output;
 use desk::key::put_rows;
 use encoding::words::{taken_by, words_at};
-use lines::MOST_OCTETS;
+use encoding::lent::MOST_OCTETS;
 use marking::note::note;
 use tally::account::{Account, TABLE, none};
 use tally::rows::End;
@@ -18,7 +18,7 @@ fn datagram(octets: &[u8], n: usize) -> [u8; MOST_OCTETS] {
     own
 }
 
-// The answers of all calls. There is room for as many stretches as a session has calls.
+// The answers of all calls.
 fn note_all(list: &List, answers: &Answers, table: &mut [u64; TABLE]) -> Account {
     let mut account = none();
     let mut octets = &list.octets[..];
@@ -26,7 +26,8 @@ fn note_all(list: &List, answers: &Answers, table: &mut [u64; TABLE]) -> Account
         let taken = taken_by(words_at(&list.words, 8 * i)).octets;
         let call = eight_at(&list.words, i);
         let answer = eight_at(&answers.words, i);
-        account = note(table, account, &call, &datagram(octets, taken), &answer).account;
+        // a table has room for as many stretches as a session has calls
+        let _ = note(table, &mut account, &call, &datagram(octets, taken), &answer);
         octets = behind(octets, taken);
     }
     account

@@ -2,7 +2,7 @@
 ghost use Rattle.std.specs.Prelude.{◌≡◌, ◌+◌, ◌≤◌, length, IfOk, OnOk, OnErr};
 
 use encoding::words::{taken_by, words_at};
-use lines::Asked;
+use encoding::lent::Asked;
 
 // The most calls of a session, and their numbers. The other rooms are enough for so many that begin, pass, arrive and take in turn.
 pub const CALLS: usize = 1024;

@@ -5,7 +5,7 @@ ghost use Rattle.calls.specs.Practised as Practised;
 use answers::STREAMS;
 use console::output::Output;
 use desk::desk::Request;
-use desk::reply::Given;
+use encoding::lent::Given;
 use radio::listen::read_commands;
 use radio::state::{HighPriority, Radio};
 use telling::radio::tell as tell_radio;

@@ -4,7 +4,8 @@ ghost use Rattle.desk.specs.Asked.{Asks};
 
 use super::desk::{Desk, Request};
 use console::output::Output;
-use lines::{Asked, Expected, Read, read_call, read_open};
+use encoding::lent::Asked;
+use lines::{Expected, Read, read_call, read_open};
 
 impl Desk {
     // An `open`. Whether there is a session then is for whoever opens it to say (`tell_opened`).

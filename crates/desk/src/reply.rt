@@ -5,27 +5,10 @@ use super::desk::Desk;
 use super::key;
 use answers::{CODE, GAP, VALUE};
 use console::output::Output;
+use encoding::lent::Given;
 use lines::Endpoint;
 use tally::account::Account;
 use telling::answer;
-
-// What a call gives: its answer's numbers, its packets and its samples.
-#[derive(Drop)]
-pub struct Given {
-    pub answers: [u64; 8],
-    pub packets: [u8; 8192],
-    pub places: [f32; 1024],
-}
-
-impl Given {
-    pub fn new() -> Given {
-        Given {
-            answers: [0; 8],
-            packets: [0; 8192],
-            places: [0.0; 1024],
-        }
-    }
-}
 
 // The gap's line, where an arrival was told one.
 fn put_gap(out: &mut Output, before: Account, answers: &[u64; 8]) {

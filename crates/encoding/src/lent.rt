@@ -3,6 +3,11 @@ ghost use Rattle.std.specs.Prelude.{◌≡◌, replicate};
 
 use super::words::Words;
 
+// The most octets of a datagram, and the most numbers that wait: 8192, and one that is too many (01's refusal 14).
+pub const MOST_OCTETS: usize = 2048;
+
+pub const MOST_NUMBERS: usize = 8193;
+
 // A list of calls: eight numbers each, and their datagrams and waiting numbers, one behind the other.
 #[derive(Clone, Copy)]
 pub struct Calls<'a> {
@@ -23,8 +28,8 @@ pub struct Call<'a> {
 #[derive(Drop)]
 pub struct Asked {
     pub call: [u64; 8],
-    pub octets: [u8; 2048],
-    pub numbers: [u32; 8193],
+    pub octets: [u8; MOST_OCTETS],
+    pub numbers: [u32; MOST_NUMBERS],
 }
 
 impl Asked {
@@ -34,8 +39,8 @@ impl Asked {
     {
         Asked {
             call: [0; 8],
-            octets: [0; 2048],
-            numbers: [0; 8193],
+            octets: [0; MOST_OCTETS],
+            numbers: [0; MOST_NUMBERS],
         }
     }
 }

@@ -8,7 +8,7 @@ use borrow.Author.Tests.{lt-ltb, le-ltb}
 use lib.ListN.{length}
 use Rattle.base.proofs.Picks.{pick-t, pick-f}
 use Rattle.text.specs.Split.{words}
-use Rattle.lines.specs.declared.Asked.{Asked}
+use Rattle.encoding.specs.declared.lent.Asked.{Asked}
 use Rattle.lines.specs.declared.Endpoint.{Endpoint}
 use Rattle.lines.specs.declared.Expected.{Expected}
 use Rattle.lines.specs.declared.Read.{Read}

@@ -4,7 +4,7 @@ use Rattle.stream.specs.Size.{per_datagram}
 use Rattle.base.specs.Pick.{pick}
 use Rattle.octets.specs.Written.{written}
 use Rattle.text.specs.Split.{words}
-use Rattle.lines.specs.declared.Asked.{Asked}
+use Rattle.encoding.specs.declared.lent.Asked.{Asked}
 use Rattle.lines.specs.declared.Endpoint.{Endpoint}
 use Rattle.lines.specs.declared.Expected.{Expected}
 use Rattle.lines.specs.declared.Read.{Read}

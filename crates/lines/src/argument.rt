@@ -5,8 +5,8 @@ ghost use Rattle.lines.specs.Argument as Argument;
 ghost use Rattle.lines.specs.Key.{word_count, most_octets};
 ghost use Rattle.lines.specs.Name.{form};
 
-use super::MOST_OCTETS;
 use super::name::Name;
+use encoding::lent::MOST_OCTETS;
 use values::address::sender;
 use values::hexadecimal::octets;
 use values::reading::{reading, up_to};

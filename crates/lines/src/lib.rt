@@ -6,6 +6,7 @@ ghost use Rattle.lines.specs.Call.{Lent};
 ghost use Rattle.lines.specs.Open.{opening_of, radio_of};
 ghost use Rattle.lines.specs.Found.{found_in, first_in};
 
+use encoding::lent::Asked;
 use model::settings::Settings;
 
 mod argument;
@@ -18,11 +19,6 @@ mod stops;
 
 // The most octets of a line: a longer one is not read.
 pub const LONGEST: usize = 100000;
-
-// The most octets of a datagram, and the most numbers that wait: 8192, and one that is too many (01's refusal 14).
-pub const MOST_OCTETS: usize = 2048;
-
-pub const MOST_NUMBERS: usize = 8193;
 
 // What was expected, as CALLS.md's Errors has it. Open and FewerStretches are for whoever runs the calls.
 #[derive(Clone, Copy, Debug, PartialEq, Eq)]
@@ -61,27 +57,8 @@ pub struct Endpoint {
     pub port: u16,
 }
 
-// A call as a line is read: its eight numbers (specs/Call), and its datagram and its waiting numbers at the front of their rooms.
-#[derive(Drop)]
-pub struct Asked {
-    pub call: [u64; 8],
-    pub octets: [u8; MOST_OCTETS],
-    pub numbers: [u32; MOST_NUMBERS],
-}
-
-impl Asked {
-    // Zeros: no line is read yet.
-    pub fn new() -> Asked {
-        Asked {
-            call: [0; 8],
-            octets: [0; MOST_OCTETS],
-            numbers: [0; MOST_NUMBERS],
-        }
-    }
-}
-
-// Reads a line of a session whose radio is there, or tells what was expected where it can't be read. After any answer but a call the
-// eight numbers are as they were, and the octets and the waiting numbers hold what was written before the reading stopped. Of an
+// Reads a line of a session whose radio is there, or tells what was expected where it can't be read. A call's eight numbers are those
+// of specs/Call; its datagram and its waiting numbers go to the front of their rooms. After any answer but a call the eight numbers are as they were, and the octets and the waiting numbers hold what was written before the reading stopped. Of an
 // `open` nothing but its name is looked at.
 pub fn read_call(line: &[u8], radio: Endpoint, asked: &mut Asked) -> Result<Read, Expected>
     ensures { Lent line.now radio asked.old result asked.new }

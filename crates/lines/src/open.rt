@@ -11,7 +11,8 @@ use super::call::or_else;
 use super::key::{KEY_COUNT, SETTINGS};
 use super::name::{Name, begins};
 use super::option::options;
-use super::{Expected, LONGEST, MOST_NUMBERS, Opening, key};
+use super::{Expected, LONGEST, Opening, key};
+use encoding::lent::MOST_NUMBERS;
 use model::settings::{AttenuationChoice, Settings};
 use tuning::board::{BoardInfo, board_info};
 

@@ -4,8 +4,9 @@ ghost use Rattle.text.specs.Split.{words};
 ghost use Rattle.lines.specs.Option as Option;
 ghost use Rattle.lines.specs.Key.{key_count, most_numbers};
 
+use super::Expected;
 use super::key::{KEY_COUNT, KEYS};
-use super::{Expected, MOST_NUMBERS, MOST_OCTETS};
+use encoding::lent::{MOST_NUMBERS, MOST_OCTETS};
 use values::address::ipv4;
 use values::reading::{double, number, reading, up_to};
 use values::waiting::waiting;

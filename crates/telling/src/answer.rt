@@ -4,7 +4,7 @@ ghost use Rattle.std.specs.Prelude.{◌≤◌, length};
 use super::digest;
 use answers::{CLOSED, CODE, EMPTY, GAP, HOLDS, SENT, STATUS, STREAMS, TOOK, VALUE};
 use console::output::Output;
-use encoding::words::TAKE_MISSING;
+use encoding::kind::Kind;
 
 // The offsets of the streams written stand behind their number.
 const OFFSETS: usize = STREAMS + 1;
@@ -98,10 +98,9 @@ fn plain(out: &mut Output, code: u64, value: u64) {
 
 // What a slot held, after the drain's name.
 fn slot(out: &mut Output, kind: u64, code: u64, value: u64) {
-    out.put(if kind == TAKE_MISSING {
-        b"missing "
-    } else {
-        b"discontinuity "
+    out.put(match Kind::of(kind) {
+        Some(Kind::TakeMissing) => b"missing ",
+        _ => b"discontinuity ",
     });
     plain(out, code, value)
 }
@@ -118,7 +117,7 @@ fn answer(out: &mut Output, kind: u64, answers: &[u64; 8], packets: &[u8], place
     }
 }
 
-// The answer of a call of this kind (encoding::words), whose packets and samples are the first of these.
+// The answer of a call of this kind (encoding::kind), whose packets and samples are the first of these.
 pub fn tell(out: &mut Output, kind: u64, answers: &[u64; 8], packets: &[u8], places: &[f32]) {
     answer(out, kind, answers, packets, places);
     out.put(b"\n")

@@ -4,7 +4,8 @@ use super::tell::too_long;
 use batch::list::List;
 use console::output::Output;
 use desk::desk::{Desk, Request};
-use lines::{Asked, Expected, Read, read_call};
+use encoding::lent::Asked;
+use lines::{Expected, Read, read_call};
 
 // A call of the session in hand. There has to be one, and its settings have to be accepted.
 fn gather(

@@ -3,6 +3,7 @@
 use batch::list::List;
 use batch::replies::Answers;
 use double::whole::floor_u64;
+use encoding::lent::Calls;
 use examining::sitting::end_of;
 use lines::Opening;
 use model::session::Session;
@@ -30,7 +31,7 @@ pub(crate) enum Left {
     Ran { counted: End, tuned: Tuning },
 }
 
-fn tuned(s: Session) -> Tuning {
+fn tuned(s: &Session) -> Tuning {
     Tuning {
         rate: floor_u64(sample_rate(s)),
         centre: floor_u64(center_freq_hz(s)),
@@ -46,10 +47,9 @@ fn read_off(r: Replayed) -> Left {
     if r.outcome.is_err() {
         return Left::NotRun;
     }
-    let s = r.session;
     Left::Ran {
-        counted: end_of(s),
-        tuned: tuned(s),
+        counted: end_of(&r.session),
+        tuned: tuned(&r.session),
     }
 }
 
@@ -58,13 +58,16 @@ pub(crate) fn run(o: Opening, list: &List, answers: &mut Answers) -> Left {
     let mut samples = [0.0f32; F32_PER_DATAGRAM];
     let end = 8 * list.calls;
     let words = &mut answers.words[..];
+    let calls = Calls {
+        words: &list.words[..end],
+        octets: &list.octets,
+        numbers: &list.numbers,
+    };
     read_off(replay(
         o.settings,
         o.at,
         &mut samples,
-        &list.words[..end],
-        &list.octets,
-        &list.numbers,
+        calls,
         &mut answers.packets,
         &mut answers.places,
         &mut words[..end],
