@@ -3,8 +3,8 @@ use super::list::List;
 use super::replies::{Answers, behind, eight_at};
 use console::output::Output;
 use desk::key::put_rows;
-use encoding::words::{taken_by, words_at};
 use encoding::lent::MOST_OCTETS;
+use encoding::words::{taken_by, words_at};
 use marking::note::note;
 use tally::account::{Account, TABLE, none};
 use tally::rows::End;
@@ -27,7 +27,13 @@ fn note_all(list: &List, answers: &Answers, table: &mut [u64; TABLE]) -> Account
         let call = eight_at(&list.words, i);
         let answer = eight_at(&answers.words, i);
         // a table has room for as many stretches as a session has calls
-        let _ = note(table, &mut account, &call, &datagram(octets, taken), &answer);
+        let _ = note(
+            table,
+            &mut account,
+            &call,
+            &datagram(octets, taken),
+            &answer,
+        );
         octets = behind(octets, taken);
     }
     account

@@ -1,8 +1,8 @@
 // The calls of a session, gathered one behind the other as replay takes them: eight numbers each, datagrams, waiting numbers.
 ghost use Rattle.std.specs.Prelude.{◌≡◌, ◌+◌, ◌≤◌, length, IfOk, OnOk, OnErr};
 
-use encoding::words::{taken_by, words_at};
 use encoding::lent::Asked;
+use encoding::words::{taken_by, words_at};
 
 // The most calls of a session, and their numbers. The other rooms are enough for so many that begin, pass, arrive and take in turn.
 pub const CALLS: usize = 1024;

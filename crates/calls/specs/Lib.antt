@@ -1,2 +1,3 @@
 -- The definitions that the contracts of `calls` cite.
 pub mod Practised
+pub mod Came

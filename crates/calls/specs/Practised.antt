@@ -37,7 +37,7 @@ heard p packets a =
 -- after a line that asks for this
 abbrev pub listened : Request → Practice → List ℕ → List ℕ → Practice
 listened Call p packets a = heard p packets a
-listened (Open radio) p packets a = untold
+listened Open p packets a = untold
 listened Nothing p packets a = p
 listened State p packets a = p
 listened Radio p packets a = p

@@ -78,7 +78,7 @@ pub(crate) fn listened(p: Practice, asks: Request, given: &Given) -> Practice
 {
     match asks {
         Request::Call => heard(p, &given.packets, &given.answers),
-        Request::Open(_) => untold(),
+        Request::Open => untold(),
         _ => p,
     }
 }

@@ -2,10 +2,9 @@
 ghost use Rattle.holding.specs.Held.{Holds};
 
 use super::practice::{listened, untold};
-use super::sessions::{Rooms, after, answered, told};
+use super::sessions::{Rooms, account_of, after, answered, radio_of, told};
 use console::output::Output;
 use desk::desk::{Desk, Flags};
-use holding::unused;
 use std::io::{Error, Read};
 use telling::error;
 
@@ -49,22 +48,22 @@ fn run_lines<R: Read>(
     rooms: &mut Rooms,
     out: &mut Output,
 ) -> Status {
-    let mut h = unused(&rooms.samples, &rooms.table);
+    let mut held = None;
     let mut p = untold();
     let mut d = Desk::new(flags);
     let fault = d.run_lines(
         from,
         out,
         |d, line, out|
-            requires { Holds h rooms.now.samples rooms.now.table }
-            ensures { Holds h.exit rooms.exit.now.samples rooms.exit.now.table }
+            requires { Holds held rooms.now.samples rooms.now.table }
+            ensures { Holds held.exit rooms.exit.now.samples rooms.exit.now.table }
         {
-            d.read(line, &mut rooms.asked, out);
-            told(h, p, d, &rooms.table, out);
-            let before = h.sitting.account;
-            h = after(h, d.asks, line, rooms);
+            d.read(line, radio_of(held), &mut rooms.asked, out);
+            told(held, p, d, &rooms.table, out);
+            let before = account_of(held);
+            let came = after(&mut held, d.asks, line, rooms);
             p = listened(p, d.asks, &rooms.given);
-            answered(h, before, d, rooms, out);
+            answered(came, before, d, rooms, out);
         },
     );
     end(&d, fault, name, out)

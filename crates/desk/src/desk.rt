@@ -3,7 +3,7 @@ ghost use Rattle.std.specs.Prelude.{◌≡◌, true, false};
 
 use console::input::Input;
 use console::output::Output;
-use lines::{Endpoint, Expected};
+use lines::Expected;
 use tally::account::STRETCHES;
 use telling::error;
 
@@ -14,8 +14,7 @@ pub enum Request {
     Call,
     State,
     Radio,
-    // a session, and where its radio is
-    Open(Endpoint),
+    Open,
     // there is no line any more
     End,
 }
@@ -36,8 +35,6 @@ pub struct Desk {
     // the line's number, and what it asks for
     pub line: u64,
     pub asks: Request,
-    // where the radio of the session is, if there is one
-    pub radio: Option<Endpoint>,
     // there are no more lines, or one could not be read
     pub is_over: bool,
     // one could not be read
@@ -50,7 +47,6 @@ impl Desk {
         Desk {
             line: 0,
             asks: Request::Nothing,
-            radio: None,
             is_over: false,
             is_wrong: false,
             flags,

@@ -1,12 +1,10 @@
 // What a line is answered, once it is run: a line of text.
-ghost use Rattle.std.specs.Prelude.{◌≡◌, ◌==◌, if◌then◌else◌, Some, None};
-
 use super::desk::Desk;
 use super::key;
 use answers::{CODE, GAP, VALUE};
 use console::output::Output;
 use encoding::lent::Given;
-use lines::Endpoint;
+use model::settings::SettingsError;
 use tally::account::Account;
 use telling::answer;
 
@@ -19,17 +17,13 @@ fn put_gap(out: &mut Output, before: Account, answers: &[u64; 8]) {
 }
 
 impl Desk {
-    // A session of the radio that is there was just opened, or its settings were refused by 01's number, which is above 0 (`Opens` of
-    // holding).
-    pub fn tell_opened(&mut self, radio: Endpoint, refused: u64, out: &mut Output)
-        ensures { self.new.radio ≡ (if refused == 0 then Some radio else None) }
-    {
+    // A session was just opened, or its settings were refused.
+    pub fn tell_opened(&self, answer: Result<(), SettingsError>, out: &mut Output) {
         self.put_number(out);
-        self.radio = (refused == 0).then_some(radio);
-        if refused == 0 {
-            return out.put(b"opened\n");
+        match answer {
+            Ok(()) => out.put(b"opened\n"),
+            Err(e) => out.filled(b"refused #\n", &[e.number()]),
         }
-        out.filled(b"refused #\n", &[refused])
     }
 
     // The answer of a call of this kind, and the gap's line where it is asked for, from the account before it.

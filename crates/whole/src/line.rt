@@ -17,7 +17,7 @@ fn gather(
     out: &mut Output,
 ) {
     match sitting {
-        Some(sitting) if d.radio.is_some() => {
+        Some(sitting) if sitting.radio.is_some() => {
             d.asks = Request::Nothing;
             if list.add(asked).is_err() {
                 too_long(d, sitting, out);
@@ -36,7 +36,8 @@ fn read_line(
     out: &mut Output,
 ) {
     let mut asked = Asked::new();
-    match read_call(line, d.radio.unwrap_or_default(), &mut asked) {
+    let radio = sitting.and_then(|s| s.radio);
+    match read_call(line, radio.unwrap_or_default(), &mut asked) {
         Ok(Read::Nothing | Read::State | Read::Radio) => d.asks = Request::Nothing,
         Ok(Read::Open) => d.read_open(line, out),
         Ok(Read::Call) => gather(d, line, &asked, sitting, list, out),

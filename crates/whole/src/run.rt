@@ -6,27 +6,29 @@ use batch::list::List;
 use batch::replies::Answers;
 use console::output::Output;
 use desk::desk::{Desk, Flags, Request};
-use lines::{Opening, read_open};
-use opening::settings::{refusal, validate_protocol2};
+use lines::{Endpoint, Opening, read_open};
+use opening::settings::validate_protocol2;
 use std::io::{Error, Read};
 use telling::error;
 
-// The session in hand: the number of its `open`, and what that line says.
+// The session in hand: the number of its `open`, what that line says, and where its radio is, unless its settings are refused.
 #[derive(Clone, Copy)]
 pub(crate) struct Sitting {
     pub(crate) line: u64,
     pub(crate) opening: Opening,
+    pub(crate) radio: Option<Endpoint>,
 }
 
 // By the line in hand, whose first word is `open`. Where its settings are refused no call is gathered.
-fn opened(d: &mut Desk, line: &[u8], list: &mut List) -> Sitting {
+fn opened(d: &Desk, line: &[u8], list: &mut List) -> Sitting {
     let opening = read_open(line);
-    let refused = refusal(validate_protocol2(opening.settings));
-    d.radio = (refused == 0).then_some(opening.radio());
     list.clear();
     Sitting {
         line: d.line,
         opening,
+        radio: validate_protocol2(opening.settings)
+            .is_ok()
+            .then_some(opening.radio()),
     }
 }
 
@@ -55,11 +57,11 @@ fn run_line(
     out: &mut Output,
 ) -> Option<Sitting> {
     read(d, line, sitting, list, out);
-    if let (Request::Open(_) | Request::End, Some(sitting)) = (d.asks, sitting) {
+    if let (Request::Open | Request::End, Some(sitting)) = (d.asks, sitting) {
         run_session(d, sitting, list, out);
     }
     match (d.asks, line) {
-        (Request::Open(_), Some(line)) => Some(opened(d, line, list)),
+        (Request::Open, Some(line)) => Some(opened(d, line, list)),
         _ => sitting,
     }
 }

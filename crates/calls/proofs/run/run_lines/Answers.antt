@@ -3,7 +3,8 @@
 use denote.Param.Always.{mut_by}
 use borrow.Author.Rules.{rules}
 use Rattle.holding.specs.Held.{Holds}
+use Rattle.holding.proofs.Keeps.{holds-none}
 use Rattle.calls.proofs.run.run_lines.Goals as goal
 
 pub run_lines-fault-requires : goal.run_lines-fault-requires
-run_lines-fault-requires g c = mut_by _ (λ s. Holds s.1.now s.0.now.samples s.0.now.table) (λ s a i. search rules) (λ s a r t i e. search rules) _ c.unused-h.ensures
+run_lines-fault-requires g c = mut_by _ (λ s. Holds s.0.now s.1.now.samples s.1.now.table) (λ s a i. search rules) (λ s a r t i e. search rules) _ (holds-none _ _)
