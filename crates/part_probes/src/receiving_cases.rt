@@ -3,10 +3,10 @@ ghost use Rattle.std.specs.Prelude.{◌+◌, ◌≤◌, length};
 
 use super::attenuator_cases::{put_reading, reading};
 use super::report_cases;
-use super::report_cases::event_of;
+use super::report_cases::{arrived, event_of, receiver};
 use casebook::answer::Answer;
 use model::command::destination;
-use model::receiver::Parked;
+use model::receiver::{Parked, Pending};
 use outage::elapsed::{capped, restart_outage, unaccounted};
 use outage::window::{begun, used};
 use probes::double_cases::double_of;
@@ -82,19 +82,18 @@ fn outage(n: [u64; 6], p: &[u8]) -> Answer
     let mut numbers = [0u32; WAITING];
     let many = waiting(p, &mut numbers);
     let all = &numbers[..];
-    let tracker = SeqTracker {
+    let mut r = receiver(Pending {
+        missing: None,
+        discontinuity: None,
+    });
+    r.tracker = SeqTracker {
         expected: Some((n[4] % 4294967296) as u32),
         stale_run: 0,
     };
-    Answer::Number(restart_outage(
-        double_of(n[0]),
-        n[1],
-        window(p),
-        n[2],
-        n[3],
-        tracker,
-        &all[0..many],
-    ))
+    r.last_accepted_iq = n[1];
+    r.parked = window(p);
+    let arrival = arrived(n[2], n[3], &all[0..many]);
+    Answer::Number(restart_outage(double_of(n[0]), &r, arrival))
 }
 
 // The rows with a window at the front of their octets.

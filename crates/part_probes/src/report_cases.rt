@@ -4,8 +4,10 @@ ghost use Rattle.std.specs.Prelude.{◌+◌, ◌≤◌, length};
 use super::attenuator_cases::{put_reading, reading};
 use casebook::answer::Answer;
 use health::InputHealthCounters;
+use model::incoming::Incoming;
 use model::receiver::{Pending, Reading, Receiver};
-use outage::report::{Report, report_event};
+use model::sender::Sender;
+use outage::report::report_event;
 use probes::double_cases::double_of;
 use sequence::{SeqEvent, SeqTracker};
 use stall::StallEpisode;
@@ -55,7 +57,7 @@ fn counts(p: &[u8]) -> InputHealthCounters
 }
 
 // In no window, and last accepted at the reading 0.
-fn receiver(pending: Pending) -> Receiver {
+pub fn receiver(pending: Pending) -> Receiver {
     let none = Reading {
         wait_entered: None,
         entered: None,
@@ -73,16 +75,15 @@ fn receiver(pending: Pending) -> Receiver {
     }
 }
 
-fn put_report(p: &mut [u8], r: Report)
-    requires { 64 ≤ length p.old }
-{
-    let pending = r.pending;
-    let missing = pending.missing;
-    let discontinuity = pending.discontinuity;
-    put_slot(p, 0, missing);
-    put_slot(p, 16, discontinuity);
-    put_counts(p, r.health);
-    put_reading(p, 56, r.missing);
+// An arrival of whose datagram only the readings and the numbers behind it are looked at.
+pub fn arrived(reading: u64, later: u64, waiting: &[u32]) -> Incoming {
+    Incoming {
+        reading,
+        later,
+        from: Sender::V6,
+        datagram: &[],
+        waiting,
+    }
 }
 
 fn put_counts(p: &mut [u8], c: InputHealthCounters)
@@ -94,29 +95,32 @@ fn put_counts(p: &mut [u8], c: InputHealthCounters)
 }
 
 // n is the rate, the event, a gap's datagrams, and the time since the last accepted arrival.
-fn reported(n: [u64; 6], p: &[u8]) -> Report
-    requires { 64 ≤ length p.now }
+fn report(n: [u64; 6], p: &mut [u8])
+    requires { 64 ≤ length p.old }
 {
-    let pending = Pending {
+    let mut r = receiver(Pending {
         missing: slot(p, 0),
         discontinuity: slot(p, 16),
-    };
-    let waiting = [0u32; 1];
-    report_event(
+    });
+    let mut health = counts(p);
+    let arrival = arrived(n[3], n[3], &[]);
+    let missing = report_event(
         double_of(n[0]),
         event_of(n[1], n[2]),
-        receiver(pending),
-        counts(p),
-        n[3],
-        n[3],
-        &waiting[0..0],
-    )
+        &mut r,
+        &mut health,
+        arrival,
+    );
+    put_slot(p, 0, r.pending.missing);
+    put_slot(p, 16, r.pending.discontinuity);
+    put_counts(p, health);
+    put_reading(p, 56, missing);
 }
 
 pub fn answer(n: [u64; 6], p: &mut [u8]) -> Answer {
     if p.len() < TOLD {
         return Answer::Nothing;
     }
-    put_report(p, reported(n, p));
+    report(n, p);
     Answer::Octets
 }
