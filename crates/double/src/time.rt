@@ -1,16 +1,9 @@
 // Readings, nanoseconds and a double's seconds, as Rust's `Instant` and `Duration` have them.
-ghost use Rattle.std.specs.Prelude.{◌≡◌, ◌-◌, ◌%◌, ◌^◌, ◌<◌, ◌≤◌};
+ghost use Rattle.std.specs.Prelude.{◌≡◌, ◌%◌, ◌^◌, ◌<◌, ◌≤◌};
 ghost use Rattle.double.specs.Seconds.{seconds_of, nanos_of};
 ghost use Rattle.double.specs.Parts.{to_even, nanos_by};
 
 use super::parts::{MOST, apart};
-
-// Rust's `saturating_duration_since`: the nanoseconds from one reading to another, 0 where that lies before it.
-pub fn since(now: u64, then: u64) -> u64
-    ensures { result ≡ now - then }
-{
-    now.saturating_sub(then)
-}
 
 // Rust's `as_secs_f64`: whole seconds plus nanoseconds / 1e9.
 pub fn seconds(ns: u64) -> f64

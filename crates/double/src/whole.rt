@@ -1,9 +1,9 @@
 // Whether a double is whole, and the whole numbers near it, as Rust's `as`, `floor`, `ceil` and `round` have them. std has all of
 // them, by the machine's own conversion. 01 has these worked out over the bits of a double, and so they stay.
-ghost use Rattle.std.specs.Prelude.{◌≡◌, ◌+◌, min, false, pos};
+ghost use Rattle.std.specs.Prelude.{◌≡◌, false, pos};
 ghost use Rattle.std.specs.Float.{fin};
 ghost use Rattle.std.specs.Float.Ieee.{lt, to_unsigned};
-ghost use Rattle.double.specs.Whole.{most, floor_of, ceil_of, round_of, rounded, is_whole};
+ghost use Rattle.double.specs.Whole.{floor_of, ceil_of, round_of, rounded, is_whole};
 
 use super::parts::{near, split};
 
@@ -30,13 +30,6 @@ pub fn cast_u32(x: f64) -> u32
 {
     let n = floor_u64(x);
     if n < 4294967296 { n as u32 } else { 4294967295 }
-}
-
-// Rust's `n.saturating_add(k)`.
-pub fn saturating_add(n: u64, k: u64) -> u64
-    ensures { result ≡ min (n + k) most }
-{
-    n.saturating_add(k)
 }
 
 // Rust's `x.ceil() as u64`.
