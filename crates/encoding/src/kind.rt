@@ -33,4 +33,10 @@ impl Kind {
             _ => None,
         }
     }
+
+    pub fn number(self) -> u64
+        ensures { result ≡ kind_number self }
+    {
+        self as u64
+    }
 }

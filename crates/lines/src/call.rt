@@ -105,7 +105,7 @@ fn places_of(name: Name, values: &Values) -> u64
 fn call_of(name: Name, radio: Endpoint, values: &Values) -> [u64; 8]
     ensures { result ≡ Call.call_of name radio values.now }
 {
-    let kind = name.kind();
+    let kind = name.call().number();
     let reading = values.words[key::FIRST_WORD];
     let later = later_of(name, values);
     let (address, from) = sender_of(name, radio, values);

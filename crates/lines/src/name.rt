@@ -1,10 +1,12 @@
 // The names of calls, what a line of each has, and the name that a line begins with.
 ghost use Rattle.std.specs.Prelude.{◌≡◌, [], MatchOption};
+ghost use Rattle.encoding.specs.Words.{kind_number};
 ghost use Rattle.text.specs.Split.{words};
 ghost use Rattle.lines.specs.Name.{Begins, form, name_of, text_of};
 
 use super::argument::Kind;
 use super::key::{BUFFER, LENGTH, SETTINGS, WAITING};
+use encoding::kind::Kind as CallKind;
 
 // What the first word of a line names: a call, what is asked of a session beside its calls, or a session that is opened.
 #[derive(Clone, Copy, Debug, PartialEq, Eq)]
@@ -78,19 +80,19 @@ impl Name {
         }
     }
 
-    // As the first of eight numbers says it; what is no call has 0.
-    pub(crate) fn kind(self) -> u64
-        ensures { result ≡ (form self).kind }
+    // The call that it is; what is no call has that of Begin, whose number is 0.
+    pub(crate) fn call(self) -> CallKind
+        ensures { kind_number result ≡ (form self).kind }
     {
         match self {
-            Name::Pass => 1,
-            Name::Iq | Name::Status | Name::Datagram => 2,
-            Name::Take => 3,
-            Name::Close => 4,
-            Name::Missing => 5,
-            Name::Discontinuity => 6,
-            Name::Stalled => 7,
-            Name::Begin | Name::State | Name::Radio | Name::Open => 0,
+            Name::Pass => CallKind::Pass,
+            Name::Iq | Name::Status | Name::Datagram => CallKind::Arrival,
+            Name::Take => CallKind::Take,
+            Name::Close => CallKind::Close,
+            Name::Missing => CallKind::TakeMissing,
+            Name::Discontinuity => CallKind::TakeDiscontinuity,
+            Name::Stalled => CallKind::TakeStalled,
+            Name::Begin | Name::State | Name::Radio | Name::Open => CallKind::Begin,
         }
     }
 
