@@ -11,7 +11,7 @@ use native.Mathlib.Omega.{arith}
 use borrow.Author.Tests.{ne_eqb}
 use Rattle.base.specs.Pick.{pick}
 use Rattle.octets.specs.Number.{be_at}
-use Rattle.base.proofs.Picks.{pick-t, pick-f, pick-either}
+use Rattle.base.proofs.Picks.{pick-either}
 use Rattle.base.specs.Told.{Told, gives, refused}
 use Rattle.discovery.specs.Reply.{Reply, status_number, reply_answer, told_of, no_reply, is_status, checked, is_p1, reply_p1, is_p2, reply_p2, reply_told}
 use Rattle.discovery.specs.declared.DiscoveryStatus.{DiscoveryStatus}
@@ -31,16 +31,6 @@ p1-not-p2 b e =
     rw (ne_eqb (be_at 4 b 0) 0 (λ z. omega (arith, front 11 (length b) (be_at 2 b 0) 0xEFFE e))) (and-false (leb 21 (length b)))
 
 -- ---- its status
-
--- t is the code's test of the status
-module _ (octet : ℕ) (t : Bool) (e : t ≡ is_status octet) where
-  pub no-status : (r reply : Reply) → t ≡ false → r ≡ no_reply → r ≡ checked octet reply
-  unfolding checked
-  no-status r reply h p = p ∙ sym (pick-f _ _ _ (sym e ∙ h))
-
-  pub a-status : (reply : Reply) → t ≡ true → reply ≡ checked octet reply
-  unfolding checked
-  a-status reply h = sym (pick-t _ _ _ (sym e ∙ h))
 
 -- s is the status that was read and m the copied address: they tell what the octet and the datagram's part a tell
 pub replied : (octet : ℕ) (told : ℕ → Told) (s : DiscoveryStatus) (m a : List ℕ) → (is_status octet ≡ true → status_number s ≡ octet) → m ≡ a

@@ -115,6 +115,7 @@ fn mac_at(buf: &[u8], at: usize) -> [u8; 6]
 }
 
 // The answer where the octet is a status, else no reply.
+#[tactic(auto, unfolding(base::specs::Pick::pick, crate::specs::Reply::checked))]
 fn checked(octet: u8, answer: ReplyAnswer, mac: [u8; 6]) -> Option<DiscoveryReply>
     ensures { told_of result ≡ checked octet (reply answer mac) }
 {

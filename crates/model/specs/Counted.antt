@@ -1,6 +1,6 @@
 -- Counters and slots over a list of calls from a session just opened: what was told adds up to what is counted, drained and pending.
 -- What is claimed of the session. Definitions only.
-use Rattle.std.specs.Prelude.{◌≡◌, ℕ, ◌+◌, ◌*◌, ◌%◌, ◌^◌, ◌<◌, Bool, true, false, T, List, [], ◌∷◌, Float, Option, Some, None}
+use Rattle.std.specs.Prelude.{◌≡◌, ℕ, ◌+◌, ◌*◌, ◌%◌, ◌^◌, ◌<◌, Bool, true, false, T, List, [], ◌∷◌, Float}
 use Rattle.std.specs.Option.{unwrap_or}
 use Rattle.base.specs.Pick.{pick}
 use Rattle.stream.specs.Size.{per_datagram}

@@ -1,5 +1,5 @@
 -- The whole state of a session: its control, and the samples that are lent beside it. What of it the calls ask. Definitions only.
-use Rattle.std.specs.Prelude.{ℕ, ◌-◌, ◌*◌, max, Bool, true, false, not, ◌||◌, List, [], drop, nat_lt, Float, is_some}
+use Rattle.std.specs.Prelude.{ℕ, ◌-◌, ◌*◌, max, Bool, not, ◌||◌, List, [], drop, nat_lt, Float, is_some}
 use Rattle.std.specs.Option.{unwrap_or}
 use Rattle.stream.specs.Size.{per_datagram}
 use Rattle.model.specs.Answer.{Answer, refused}

@@ -1,2 +1,1 @@
--- What the proofs of `cases` use.
-pub mod Bits
+-- `probes` needs no laws of its own.

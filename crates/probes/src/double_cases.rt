@@ -20,6 +20,7 @@ pub const TABLE: [u8; 199] = *b"is_finite 1\n\
     saturating_add 2";
 
 // The double of a pattern. Every NaN's pattern gives the one NaN that the language has.
+#[tactic(auto, using(std::proofs::lemmas::Float::not_nan_f64_bits))]
 pub fn double_of(bits: u64) -> f64 {
     if bits % 9223372036854775808 > 9218868437227405312 {
         return 0.0 / 0.0;
@@ -29,7 +30,7 @@ pub fn double_of(bits: u64) -> f64 {
 
 // A NaN is told by one pattern, whichever it has.
 fn of_double(x: f64) -> Answer {
-    if x != x {
+    if x.is_nan() {
         return Answer::Double(9221120237041090560);
     }
     Answer::Double(f64::to_bits(x))

@@ -128,7 +128,7 @@ fn given(a: Result<u32, IqError>) -> Answer {
 
 // A NaN, which no sample is, is told by one pattern.
 fn bits_of(x: f32) -> u32 {
-    if x != x {
+    if x.is_nan() {
         return 0x7fc0_0000;
     }
     f32::to_bits(x)

@@ -1,9 +1,6 @@
 -- A discovery reply as it is written: fields in a cleared front, then the address. Assumes nothing.
-use Rattle.std.specs.Prelude.{⊤, Option, Some, Result}
-use Rattle.radio_packets.specs.declared.answer.WriteError.{WriteError}
 use Prim.Native.Nat.{ℕ, ◌≤◌, ◌<◌}
-use mathlib.Core.Path.{◌≡◌, sym, ap, ◌∙◌, subst}
-use mathlib.Core.Bool.{not}
+use mathlib.Core.Path.{◌≡◌, sym, ap, ◌∙◌}
 use mathlib.Core.List.{List}
 use lib.ListN.{length, drop}
 use native.Mathlib.Omega.{arith}
@@ -14,10 +11,7 @@ use Rattle.octets.proofs.Writes.{written-front, written-append, length-written}
 use Rattle.discovery.specs.Reply.{status_number}
 use Rattle.discovery.specs.declared.DiscoveryStatus.{DiscoveryStatus}
 use Rattle.discovery.specs.declared.DiscoveryStatus.TheVariants.{Available, InUse}
-use Rattle.discovery.specs.declared.ReplyAnswer.{ReplyAnswer}
-use Rattle.discovery.specs.declared.DiscoveryReply.{DiscoveryReply}
-use Rattle.radio_packets.specs.Answer.{Wrote}
-use Rattle.radio_packets.specs.Reply.{is_written, packet_of, is_reply, reply_fields, reply_octets, reply_packet}
+use Rattle.radio_packets.specs.Reply.{reply_fields, reply_octets}
 
 pub status-small : (status : DiscoveryStatus) → status_number status < 256
 status-small Available = omega arith
@@ -47,13 +41,3 @@ module _ (status : DiscoveryStatus) (board firmware receivers : ℕ) where
     where
       cleared : (d : List ℕ) → 60 ≤ length d → length (written d 0 (zeros 60)) ≡ length d
       cleared d room = length-written d 0 (zeros 60) (omega (arith, length-zeros 60))
-
--- what was written of the reply that it was told to be
-pub as-told : {a b : Option DiscoveryReply} (d e : List ℕ) (r : Result ⊤ WriteError) → a ≡ b → Wrote (not (is_written b)) 60 (packet_of b) d r e
-    → Wrote (not (is_written a)) 60 (packet_of a) d r e
-as-told d e r h w = subst (λ (x : Option DiscoveryReply). Wrote (not (is_written x)) 60 (packet_of x) d r e) (sym h) w
-
-pub as-given : {x : Option DiscoveryReply} (y : DiscoveryReply) {a : ReplyAnswer} (d e : List ℕ) (r : Result ⊤ WriteError) → x ≡ Some y → y.answer ≡ a
-    → Wrote (not (is_reply a)) 60 (reply_packet a y.mac) d r e → Wrote (not (is_written x)) 60 (packet_of x) d r e
-as-given y d e r h g w =
-    as-told d e r h (subst (λ (x : ReplyAnswer). Wrote (not (is_reply x)) 60 (reply_packet x y.mac) d r e) (sym g) w)

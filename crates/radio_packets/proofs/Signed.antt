@@ -1,38 +1,29 @@
--- Signed 24-bit numbers: the code's tests and casts of them, and lists of them looked through and written. Assumes nothing.
-use Prim.Native.Nat.{ℕ, suc, ◌+◌, ◌-◌, ◌<◌}
+-- Signed 24-bit numbers: elements that the code copied, and lists of them looked through and written. Assumes nothing.
+use Prim.Native.Nat.{ℕ, suc, ◌+◌, ◌<◌}
 use mathlib.Core.Path.{◌≡◌, refl, sym, ap, ◌∙◌, subst}
-use mathlib.Core.Bool.{Bool, true, false, ◌&&◌, cond, and-false, and_assoc}
+use mathlib.Core.Bool.{Bool, true, false, ◌&&◌, and-false, and_assoc}
 use mathlib.Core.List.{List, [], ◌∷◌, ◌++◌}
 use lib.ListN.{length, get_or, take, drop}
 use lib.Seq.{take-suc, split_at}
-use lib.Dec.{T, eqb, eqb→eq, leb-suc-suc}
+use lib.Dec.{T, eqb, eqb→eq}
 use lib.Ieee.Bits.{is_true}
 use lib.Ieee.Fits.{and_l, and_r}
-use lib.IntN.{ℤ, pos, negsuc, ◌+ℤ◌, nat_abs}
-use lib.Signed.{lt_z, le_z, non_neg, mag}
+use lib.IntN.{ℤ, pos, negsuc}
+use lib.Signed.{mag}
 use native.Mathlib.Numerals.{add-one}
 use native.Mathlib.Omega.{arith}
-use borrow.Author.Tests.{ltb-true, ltb-false, lt-ltb, le-ltb}
+use borrow.Author.Tests.{ltb-true}
 use mir.Syntax.{w32}
-use mir.Val.{SFits, Fits, to_z, of_z}
+use mir.Val.{SFits, to_z, of_z}
 use mir.ValLaws.{to_z-of_z}
 use Rattle.radio_packets.specs.Iq.{is24, bits_of, all24, is_pairs}
 
--- ---- the range
-
-pub below-least : (x : ℤ) → lt_z x (negsuc 8388607) ≡ true → false ≡ is24 x
-below-least (pos n) h = let z : ◌≡◌ {A = ℕ} 0 1 = cc in absurd (omega arith)
-below-least (negsuc n) h = let l = ltb-true 8388607 n h in sym (le-ltb n 8388608 (omega arith))
-
-pub at-most : (x : ℤ) → lt_z x (negsuc 8388607) ≡ false → le_z x (pos 8388607) ≡ is24 x
-at-most (pos n) h = sym (leb-suc-suc n 8388607)
-at-most (negsuc n) h = let l = ltb-false 8388607 n h in sym (lt-ltb n 8388608 (omega arith))
+-- ---- an element that was copied out of a slice
 
 module _ (x : ℤ) (f : SFits w32 x) where
   pub read : to_z w32 (of_z w32 x) ≡ x
   read = to_z-of_z w32 x f
 
--- of an element that was copied out of a slice
 module _ (y : ℤ) (h : mag y < 2147483648) where
   abbrev fits : SFits w32 y
   fits = record { sfits = h }
@@ -51,41 +42,6 @@ module _ (y : ℤ) (h : mag y < 2147483648) where
 pub bits_small : (x : ℤ) → is24 x ≡ true → bits_of x < 16777216
 bits_small (pos n) h = let l = ltb-true n 8388608 h in omega arith
 bits_small (negsuc n) h = omega arith
-
-shifted : (x : ℤ) → is24 x ≡ true → lt_z x (pos 0) ≡ true → x +ℤ pos 16777216 ≡ pos (bits_of x)
-shifted (pos n) h l = let z = ltb-true n 0 l in absurd (omega arith)
-shifted (negsuc n) h l =
-    let b = ltb-true n 8388608 h in
-    ap (λ (t : Bool). cond t (negsuc (suc n - 16777217)) (pos (16777216 - suc n))) (le-ltb 16777216 (suc n) (omega arith))
-    ∙ ap (λ (k : ℕ). pos (16777216 - k)) (sym (add-one n))
-
-unshifted : (x : ℤ) → lt_z x (pos 0) ≡ false → x ≡ pos (bits_of x)
-unshifted (pos n) l = refl
-unshifted (negsuc n) l = let z : ◌≡◌ {A = ℕ} 0 1 = cc in absurd (omega arith)
-
-small-fits : (n : ℕ) → n < 16777216 → SFits w32 (pos n)
-small-fits n h = record { sfits = omega arith }
-
-module _ (x : ℤ) (f : SFits w32 x) (h : is24 x ≡ true) where
-  abbrev sum : ℤ
-  sum = to_z w32 (of_z w32 x) +ℤ pos 16777216
-
-  module _ (l : lt_z (to_z w32 (of_z w32 x)) (pos 0) ≡ true) where
-    sum_is : sum ≡ pos (bits_of x)
-    sum_is = ap (λ (z : ℤ). z +ℤ pos 16777216) (read x f) ∙ shifted x h (subst (λ (z : ℤ). lt_z z (pos 0) ≡ true) (read x f) l)
-
-    pub sum_fits : SFits w32 sum
-    sum_fits = subst (SFits w32) (sym sum_is) (small-fits (bits_of x) (bits_small x h))
-
-    -- what the code casts
-    pub sum-read : to_z w32 (of_z w32 sum) ≡ pos (bits_of x)
-    sum-read = to_z-of_z w32 sum sum_fits ∙ sum_is
-
-  pub plain-read : lt_z (to_z w32 (of_z w32 x)) (pos 0) ≡ false → to_z w32 (of_z w32 x) ≡ pos (bits_of x)
-  plain-read l = read x f ∙ unshifted x (subst (λ (z : ℤ). lt_z z (pos 0) ≡ false) (read x f) l)
-
-  pub castable : (z : ℤ) → z ≡ pos (bits_of x) → T (non_neg z) × Fits w32 (nat_abs z)
-  castable z e = rw e (tt, record { fits = let b = bits_small x h in omega arith })
 
 -- ---- lists
 

@@ -45,6 +45,7 @@ fn all_24(samples: &[i32]) -> bool
     true
 }
 
+#[tactic(auto, unfolding(crate::specs::Iq::is_pairs))]
 fn is_pairs(samples: &[i32]) -> bool
     ensures { result ≡ is_pairs samples.now }
 {
@@ -54,6 +55,7 @@ fn is_pairs(samples: &[i32]) -> bool
     all_24(samples)
 }
 
+#[tactic(auto, unfolding(octets::specs::Packet::packet, octets::specs::Packet::zeros, octets::specs::Written::written))]
 fn put_header(out: &mut [u8], seq: u32)
     requires { 16 ≤ length out.old }
     ensures { out.new ≡ written out.old 0 (packet 16 (iq_fields seq)) }

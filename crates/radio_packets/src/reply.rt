@@ -23,6 +23,7 @@ fn status_octet(status: DiscoveryStatus) -> u8
 }
 
 // The hardware address.
+#[tactic(auto, unfolding(octets::specs::Written::written))]
 fn put_mac(out: &mut [u8], mac: &[u8])
     requires { (60 ≤ length out.old) × (length mac.now ≡ 6) }
     ensures { out.new ≡ written out.old 5 mac.now }
@@ -55,6 +56,7 @@ fn put_reply(
 }
 
 // Writes the reply to the front of out. Only one of Protocol 2 is written: another, or none, is refused by its value.
+#[tactic(auto, unfolding(base::specs::Pick::pick))]
 pub fn discovery_reply(reply: Option<DiscoveryReply>, out: &mut [u8]) -> Result<(), WriteError>
     ensures { Wrote (not (is_written reply)) 60 (packet_of reply) out.old result out.new }
 {

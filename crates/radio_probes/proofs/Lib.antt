@@ -1,2 +1,1 @@
--- What the proofs of `radio_probes` use.
-pub mod Signed
+-- `radio_probes` needs no laws of its own.

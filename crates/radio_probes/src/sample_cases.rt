@@ -11,22 +11,14 @@ const PLACES: usize = 512;
 // Numbers of 24 bits.
 const RANGE: u32 = 16777216;
 
-// The number whose 32 bits in two's complement these are.
-fn of_32(v: u32) -> i32 {
-    if v < 2147483648 {
-        return v as i32;
-    }
-    -1 - ((4294967295 - v) as i32)
-}
-
 // The number whose 24 bits these are: the sign goes on to 32.
 fn of_24(v: u32) -> i32
     requires { v < 16777216 }
 {
     if v < 8388608 {
-        return of_32(v);
+        return v.cast_signed();
     }
-    of_32(4278190080 + v)
+    (4278190080 + v).cast_signed()
 }
 
 // The rule: the first number, and from each to the next the step, modulo 2^24.
@@ -51,7 +43,7 @@ fn sent(seq: u32, n: [u64; 6], samples: &mut [i32], p: &mut [u8]) -> Answer {
     let first = (n[2] % 16777216) as u32;
     let step = (n[3] % 16777216) as u32;
     fill(samples, first, step);
-    put(samples, n[4], of_32((n[5] % 4294967296) as u32));
+    put(samples, n[4], ((n[5] % 4294967296) as u32).cast_signed());
     of_write(iq_datagram(seq, samples, p))
 }
 

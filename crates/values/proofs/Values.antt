@@ -2,15 +2,15 @@
 use mathlib.Core.Path.{◌≡◌, refl, ap}
 use mathlib.Core.Bool.{Bool, true, false, not}
 use mathlib.Core.List.{List}
-use Prim.Native.Nat.{ℕ, ◌≤◌, ◌<◌}
+use Prim.Native.Nat.{ℕ, ◌≤◌}
 use native.Mathlib.Omega.{arith}
-use borrow.Author.Tests.{leb-true, le-leb, lt-leb}
+use borrow.Author.Tests.{leb-true}
 use lib.Dec.{T, leb}
 use lib.IntN.{pos}
 use lib.Ieee.{Float, nan, inf, fin, binary64, of_int, is_nan}
 use lib.Ieee.Back.{round_whole}
 use lib.Ieee.Exact.{HasValue}
-use Rattle.std.specs.Prelude.{SomeIff, Option, Some, None}
+use Rattle.std.specs.Prelude.{Option, Some, None}
 use Rattle.std.specs.Option.{option_and_then}
 use Rattle.base.specs.Pick.{pick}
 use Rattle.text.specs.Number.{digits_of}
@@ -31,12 +31,6 @@ module _ (x : Option ℕ) (f : ℕ → Option ℕ) where
 
   pub then-yes : (n : ℕ) → x ≡ Some n → option_and_then f x ≡ f n
   then-yes n e = ap (option_and_then f) e
-
--- a product that fits 64 bits, as `checked_mul` gives it
-pub checked : (r : Option ℕ) (m : ℕ) → SomeIff r (m < 18446744073709551616) m → r ≡ pick (leb m 18446744073709551615) (Some m) None
-unfolding pick
-checked None m h = rw (lt-leb m 18446744073709551615 (omega (arith, h)))
-checked (Some v) m (p, e) = rw (le-leb m 18446744073709551615 (omega arith), e)
 
 -- a number that was read is within its limit
 pub number-most : (m : ℕ) (w : List ℕ) (n : ℕ) → number m w ≡ Some n → n ≤ m

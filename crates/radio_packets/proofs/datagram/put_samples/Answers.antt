@@ -1,13 +1,9 @@
 -- `radio_packets::datagram::put_samples` writes three octets a turn. Assumes nothing.
 use borrow.Author.Rules.{rules}
-use mathlib.Core.Path.{refl, ap, ◌∙◌}
-use mathlib.Core.List.{List}
-use lib.IntN.{ℤ, pos}
+use mathlib.Core.Path.{refl}
+use lib.IntN.{pos}
 use lib.ListN.{get_or}
-use lib.Seq.{take_all}
 use native.Mathlib.Omega.{arith}
-use Rattle.octets.specs.Written.{written}
-use Rattle.radio_packets.specs.Iq.{octets_of}
 use Rattle.radio_packets.proofs.Signed.{copied, ranged, all-at}
 use Rattle.radio_packets.proofs.Datagrams.{samples-none, samples-more}
 use Rattle.radio_packets.proofs.datagram.put_samples.Goals as goal
@@ -28,7 +24,3 @@ loop-i-preserved c =
       samples-more c.args.out.now c.loop-i.out c.put_u24.new.p s i c.bits_of.result (pos 0) (omega (arith, c.requires.1)) (omega (arith, c.requires.0, c.requires.1)) c.loop-i.invariant.1
           (copied (get_or s i (pos 0)) (search rules) c.bits_of.ensures) c.put_u24.ensures,
     )
-
-pub returns : goal.returns
-returns c =
-    c.loop-i.invariant.1 ∙ ap (λ (m : List ℤ). written c.args.out.now 16 (octets_of m)) (take_all c.loop-i.i c.args.samples.now (omega (arith, c.requires.1)))

@@ -1,5 +1,4 @@
 -- `radio_packets::datagram::put_samples` writes three octets a turn. Assumes nothing.
-use Prim.Native.Nat.{◌-◌, ◌≤◌}
 use mathlib.Core.Path.{◌≡◌}
 use lib.ListN.{length, take}
 use Rattle.octets.specs.Written.{written}

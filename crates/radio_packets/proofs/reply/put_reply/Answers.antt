@@ -2,7 +2,7 @@
 -- Assumes nothing.
 use Prim.Native.Nat.{ℕ}
 use mathlib.Core.Path.{refl, ap, ◌∙◌}
-use lib.ListN.{set, length-set}
+use lib.ListN.{set}
 use native.Mathlib.Omega.{arith}
 use Rattle.octets.proofs.Packets.{singly}
 use Rattle.radio_packets.specs.Reply.{reply_fields}
@@ -10,25 +10,8 @@ use Rattle.radio_packets.proofs.Wrotes.{wrote-no-room, wrote}
 use Rattle.radio_packets.proofs.Replies.{reply-front}
 use Rattle.radio_packets.proofs.reply.put_reply.Goals as goal
 
--- `radio_packets::reply::put_reply` meets its contract: refused for room, or four fields stored in a cleared front, then the address.
--- Assumes nothing.
 pub returns-then-out-lt-PROTOCOL2_REPLY_LEN : goal.returns-then-out-lt-PROTOCOL2_REPLY_LEN
 returns-then-out-lt-PROTOCOL2_REPLY_LEN c = wrote-no-room _ 60 _ _ refl (omega arith)
-
-pub bounds-out-11 : goal.bounds-out-11
-bounds-out-11 c = simp length-set (omega arith)
-
-pub bounds-out-13 : goal.bounds-out-13
-bounds-out-13 c = simp length-set (omega arith)
-
-pub bounds-out-20 : goal.bounds-out-20
-bounds-out-20 c = simp length-set (omega arith)
-
-pub put_mac-requires : goal.put_mac-requires
-put_mac-requires c = (simp length-set (omega arith), c.requires)
-
-pub shape_of-out : goal.shape_of-out
-shape_of-out c = omega (arith, simp length-set at c.put_mac.auto.out)
 
 pub returns : goal.returns
 returns c =
