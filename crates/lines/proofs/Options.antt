@@ -7,7 +7,7 @@ use borrow.Author.Tests.{lt-ltb, le-ltb, le-leb, lt-leb}
 use mathlib.Core.Bool.{Bool, true, false}
 use lib.Dec.{ltb}
 use Rattle.lines.specs.Key.{key_count}
-use lib.ListN.{length, drop, get_or, set}
+use lib.ListN.{length, get_or, set}
 use Rattle.base.proofs.Picks.{pick-t, pick-f}
 use Rattle.octets.specs.Written.{written}
 use Rattle.text.specs.Split.{words, FirstWord}

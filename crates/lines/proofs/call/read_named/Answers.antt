@@ -1,10 +1,8 @@
 -- `lines::call::read_named` reads the call's words, then its options, and writes what they say. Assumes nothing.
-use Prim.Native.Nat.{◌+◌}
 use mathlib.Core.Path.{sym, ◌∙◌}
 use mathlib.Core.Bool.{true≢false}
 use denote.Enum.Bare.{same_true}
 use Rattle.lines.specs.contracts.Read.{the_type}
-use mathlib.Core.List.{[]}
 use native.Mathlib.Omega.{arith}
 use Rattle.lines.proofs.Forms.{keys-within}
 use Rattle.lines.proofs.Bounds.{small}

@@ -1,5 +1,4 @@
 -- `lines::stops::unread` goes the ways that reading goes. Assumes nothing.
-use Prim.Native.Nat.{◌+◌}
 use mathlib.Core.Path.{sym, ◌∙◌}
 use native.Mathlib.Omega.{arith}
 use Rattle.lines.proofs.Forms.{keys-within}
