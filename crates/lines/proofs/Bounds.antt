@@ -59,7 +59,6 @@ pub record HeldWords (name : Name) (l : List ℕ) : Type 0 where
   pub words : (j : ℕ) → j < 4 → get_or l j 0 ≤ most (get_or (form name).words j Reading)
 
 pub held-unsaid : HeldKeys unsaid
-unfolding or_else
 held-unsaid = record { options = λ k h. rw (get_or-replicate {A = Option ℕ} key_count k None None h) (omega arith) }
 
 held-unread : (name : Name) → HeldWords name unread_words
@@ -98,7 +97,7 @@ took-below from to l w e = go (leb (length w) (equals_in w)) (ltb key from) (leb
     go false false false q e = leb-false to key q
 
 held-option : (from to : ℕ) (l : List (Option ℕ)) (w : List ℕ) → to ≤ key_count → took from to l w ≡ Taken → HeldKeys l → HeldKeys (values_after l w)
-unfolding values_after values_key value_of or_else
+unfolding values_after values_key value_of
 held-option from to l w o t h =
     let k = key_at (equals_in w) w in
     record {
@@ -126,7 +125,6 @@ held-form name ws = held-arguments name (form name).words ws 0 unread_words (ome
 -- ---- what the limits give
 
 pub or-else-most : (l : List (Option ℕ)) (key other b : ℕ) → or_else l key 0 ≤ b → other ≤ b → or_else l key other ≤ b
-unfolding or_else
 or-else-most l key other b h o = go (get_or l key None) h
   where
     go : (x : Option ℕ) → unwrap_or x 0 ≤ b → unwrap_or x other ≤ b

@@ -26,7 +26,7 @@ use Rattle.values.specs.Datagram.{iq_octets, status_octets}
 abbrev pub Told : Type 0
 Told = Result Read Expected
 
-unfoldable pub expected_word : Kind → Expected
+abbrev pub expected_word : Kind → Expected
 expected_word Reading = Expected.Reading
 expected_word Number = Expected.DatagramNumber
 expected_word Octet = Expected.Octet
@@ -87,7 +87,7 @@ unfoldable pub values_of : Name → List (List ℕ) → Values
 values_of name ws = record { words = arguments_of name ws; keys = options_values unsaid (options_of name ws) }
 
 -- a key's value, or what it is where it is left out
-unfoldable pub or_else : List (Option ℕ) → ℕ → ℕ → ℕ
+abbrev pub or_else : List (Option ℕ) → ℕ → ℕ → ℕ
 or_else l key other = unwrap_or (get_or l key None) other
 
 abbrev pub later_of : Name → Values → ℕ

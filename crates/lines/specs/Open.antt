@@ -21,7 +21,7 @@ use Rattle.lines.specs.Call.{longest, words_of, or_else}
 abbrev pub bits_of : ℕ → ℕ
 bits_of n = to_bits binary64 (of_int binary64 (pos n))
 
-unfoldable pub double_or : List (Option ℕ) → ℕ → ℕ → Float
+abbrev pub double_or : List (Option ℕ) → ℕ → ℕ → Float
 double_or l key other = of_bits binary64 (or_else l key other)
 
 abbrev pub board_id : ℕ → Option ℕ

@@ -50,7 +50,7 @@ board w = pick (same w (ascii "skipped")) (Some 256) (number 255 w)
 unfoldable pub attenuation : List ℕ → Option ℕ
 attenuation w = up_to 2 (Some (place w (named ("off" ∷ "on" ∷ "unsaid" ∷ []))))
 
-unfoldable pub spelt_as : Spelling → List ℕ → Option ℕ
+abbrev pub spelt_as : Spelling → List ℕ → Option ℕ
 spelt_as Number w = digits_of 10 w
 spelt_as Reading w = reading w
 spelt_as Double w = double w
@@ -63,7 +63,7 @@ unfoldable pub value_of : ℕ → List ℕ → Option ℕ
 value_of key w = up_to (get_or limits key 0) (spelt_as (get_or spellings key Number) w)
 
 -- what is of waiting numbers, and what of another value
-unfoldable pub of_waiting : {A : Type 0} → Spelling → A → A → A
+abbrev pub of_waiting : {A : Type 0} → Spelling → A → A → A
 of_waiting Number x y = y
 of_waiting Reading x y = y
 of_waiting Double x y = y
@@ -73,14 +73,14 @@ of_waiting Attenuation x y = y
 of_waiting Waiting x y = x
 
 -- the lent numbers after a value was read
-unfoldable pub numbers_as : Spelling → List ℕ → List ℕ → List ℕ
+abbrev pub numbers_as : Spelling → List ℕ → List ℕ → List ℕ
 numbers_as how w d = of_waiting how (written d 0 (waiting_numbers w)) d
 
 abbrev pub numbers_for : ℕ → List ℕ → List ℕ → List ℕ
 numbers_for key w d = numbers_as (get_or spellings key Number) w d
 
 -- the lent numbers where its reading ended, whether it could be read or not
-unfoldable pub numbers_seen_as : Spelling → List ℕ → List ℕ → List ℕ
+abbrev pub numbers_seen_as : Spelling → List ℕ → List ℕ → List ℕ
 numbers_seen_as how w d = of_waiting how (written d 0 (waiting_seen w)) d
 
 abbrev pub numbers_seen_for : ℕ → List ℕ → List ℕ → List ℕ
@@ -105,7 +105,7 @@ abbrev pub Taken : Took
 Taken = Ok tt
 
 -- what was expected of a word that is not taken, where `other` is expected in place of an unknown one
-unfoldable pub expected_of : Untaken → Expected → Expected
+abbrev pub expected_of : Untaken → Expected → Expected
 expected_of Unknown other = other
 expected_of (Unreadable k) other = Expected.ValueOf k
 
