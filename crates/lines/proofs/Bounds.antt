@@ -12,13 +12,12 @@ use Rattle.std.specs.Prelude.{Option, Some, None, Ok, Err}
 use Rattle.lines.specs.declared.option.Untaken.TheVariants.{Unknown, Unreadable}
 use Rattle.lines.specs.declared.argument.Kind.{Kind}
 use Rattle.lines.specs.declared.argument.Kind.TheVariants.{Reading}
-use Rattle.lines.specs.declared.option.Spelling.TheVariants.{Number}
 use Rattle.values.specs.Value.{given, up_to}
 use Rattle.lines.specs.Key.{buffer_key, waiting_key, length_key, bits_key, samples_key, key_count, word_count, unread_words, unsaid, most_octets}
 use Rattle.lines.specs.declared.name.Name.{Name}
 use Rattle.lines.specs.Name.{form}
 use Rattle.lines.specs.Argument.{most, argument_as, argument, argument_values}
-use Rattle.lines.specs.Option.{Took, Taken, spellings, limits, spelt_as, said, key_at, value_at, equals_in, value_of, took_key, took, values_key, values_after, and_then, options_took, options_values}
+use Rattle.lines.specs.Option.{Took, Taken, spelling, limit, spelt_as, said, key_at, value_at, equals_in, value_of, took_key, took, values_key, values_after, and_then, options_took, options_values}
 use borrow.Author.Rules.{rules}
 use Rattle.std.specs.Option.{unwrap_or}
 use Rattle.lines.specs.declared.Endpoint.{Endpoint}
@@ -52,7 +51,7 @@ get_or-said-le (x ∷ xs) (suc i) v (suc k) b h e = get_or-said-le xs i v k b h 
 
 -- every key's value is within its key's limit
 pub record HeldKeys (l : List (Option ℕ)) : Type 0 where
-  pub options : (k : ℕ) → k < key_count → or_else l k 0 ≤ get_or limits k 0
+  pub options : (k : ℕ) → k < key_count → or_else l k 0 ≤ limit k
 
 -- every word's of the form is within its own
 pub record HeldWords (name : Name) (l : List ℕ) : Type 0 where
@@ -69,7 +68,7 @@ held_word name l j v h b = record { words = λ i d. get_or-set-le l j v i _ (h.w
 
 pub held-arguments : (name : Name) (ts : List Kind) (ws : List (List ℕ)) (j : ℕ) (l : List ℕ) → j + length ts ≤ 4 → ((i : ℕ) → get_or ts i Reading ≡ get_or (form name).words (j + i) Reading)
     → HeldWords name l → HeldWords name (argument_values j ts ws l)
-unfolding argument_values argument
+unfolding argument_values
 held-arguments name [] ws j l d e h = h
 held-arguments name (t ∷ ts) [] j l d e h = h
 held-arguments name (t ∷ ts) (w ∷ ws) j l d e h =
@@ -97,13 +96,13 @@ took-below from to l w e = go (leb (length w) (equals_in w)) (ltb key from) (leb
     go false false false q e = leb-false to key q
 
 held-option : (from to : ℕ) (l : List (Option ℕ)) (w : List ℕ) → to ≤ key_count → took from to l w ≡ Taken → HeldKeys l → HeldKeys (values_after l w)
-unfolding values_after values_key value_of
+unfolding values_after values_key
 held-option from to l w o t h =
     let k = key_at (equals_in w) w in
     record {
       options =
           λ i d. get_or-said-le l k (given (value_of k (value_at (equals_in w) w)) (λ n. n) 0) i _ (h.options i d)
-          (λ z. rw z (up-to-most (get_or limits k 0) (spelt_as (get_or spellings k Number) (value_at (equals_in w) w))));
+          (λ z. rw z (up-to-most (limit k) (spelt_as (spelling k) (value_at (equals_in w) w))));
     }
 
 and-taken : (a b : Took) → and_then a b ≡ Taken → (a ≡ Taken) × (b ≡ Taken)

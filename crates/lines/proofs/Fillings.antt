@@ -21,7 +21,6 @@ use Rattle.values.proofs.Hexadecimals.{seen-octets}
 -- ---- of a word that can be read, what was seen is the whole of it
 
 seen-whole : (t : Kind) (w d : List ℕ) (v : ℕ) → argument t w ≡ Some v → octets_seen_as t w d ≡ octets_as t w d
-unfolding argument
 seen-whole Reading w d v e = refl
 seen-whole Number w d v e = refl
 seen-whole Octet w d v e = refl

@@ -16,7 +16,7 @@ use Rattle.lines.specs.declared.option.Spelling.{Spelling}
 use Rattle.lines.specs.declared.option.Spelling.TheVariants.{Number, Reading, Double, Address, Board, Attenuation, Waiting}
 use Rattle.lines.specs.declared.option.Untaken.{Untaken}
 use Rattle.lines.specs.declared.option.Untaken.TheVariants.{Unknown, Unreadable}
-use Rattle.lines.specs.Option.{Took, Taken, spellings, limits, spelt_as, numbers_as, numbers_seen_as, numbers_seen_for, key_at, value_at, equals_in, took_key, values_key, took, values_after, numbers_after, if_known, numbers_seen, value_of, numbers_for, Stepped, and_then, options_took, options_values, options_numbers, stopped, options_seen, options_rest, Ran}
+use Rattle.lines.specs.Option.{Took, Taken, spelling, limit, spelt_as, numbers_as, numbers_seen_as, numbers_seen_for, key_at, value_at, equals_in, took_key, values_key, took, values_after, numbers_after, if_known, numbers_seen, value_of, numbers_for, Stepped, and_then, options_took, options_values, options_numbers, stopped, options_seen, options_rest, Ran}
 use Rattle.values.proofs.Values.{given-no, given_yes, up-to-number}
 use Rattle.values.proofs.Spans.{seen-numbers}
 
@@ -32,8 +32,7 @@ seen_as Attenuation w d v e = refl
 seen_as Waiting w d v e = ap (written d 0) (seen-numbers w v e)
 
 seen-whole : (key : ℕ) (w d : List ℕ) (v : ℕ) → value_of key w ≡ Some v → numbers_seen_for key w d ≡ numbers_for key w d
-unfolding value_of
-seen-whole key w d v e = seen_as (get_or spellings key Number) w d v (up-to-number (get_or limits key 0) (spelt_as (get_or spellings key Number) w) v e)
+seen-whole key w d v e = seen_as (spelling key) w d v (up-to-number (limit key) (spelt_as (spelling key) w) v e)
 
 -- ---- a word
 

@@ -26,7 +26,7 @@ argument_as Places w = digits_of 10 w
 argument_as Sender w = sender w
 argument_as Octets w = octet_count w
 
-unfoldable pub argument : Kind → List ℕ → Option ℕ
+abbrev pub argument : Kind → List ℕ → Option ℕ
 argument t w = up_to (most t) (argument_as t w)
 
 -- what is of octets, and what of another word
@@ -55,7 +55,7 @@ unread (t ∷ ts) [] = Some t
 unread (t ∷ ts) (w ∷ ws) = given (argument t w) (λ n. unread ts ws) (Some t)
 
 -- the one where every word is read, else the other
-unfoldable pub if_read : {A : Type 0} → Option Kind → A → A → A
+abbrev pub if_read : {A : Type 0} → Option Kind → A → A → A
 if_read None x y = x
 if_read (Some t) x y = y
 

@@ -35,7 +35,7 @@ expected_word Sender = Expected.Sender
 expected_word Octets = Expected.Octets
 
 -- a run of options, where an unknown word is answered by e
-unfoldable pub optioned : Took → Expected → Told → Told
+abbrev pub optioned : Took → Expected → Told → Told
 optioned (Ok u) e r = r
 optioned (Err x) e r = Err (expected_of x e)
 
@@ -50,7 +50,7 @@ abbrev pub asks : Name → Read
 asks name = if is name State then Read.State else if is name Radio then Read.Radio else if is name Open then Read.Open else Read.Call
 
 -- a line whose first word is told that isn't there or can't be read; r where every word is read
-unfoldable pub worded : Option Kind → Told → Told
+abbrev pub worded : Option Kind → Told → Told
 worded None r = r
 worded (Some t) r = Err (expected_word t)
 

@@ -14,7 +14,7 @@ use Rattle.lines.specs.Key.{settings, at_key, receivers_key, centres_key, rate_k
 use Rattle.lines.specs.declared.name.Name.{Name}
 use Rattle.lines.specs.declared.name.Name.TheVariants.{Open}
 use Rattle.lines.specs.Name.{name_of, is}
-use Rattle.lines.specs.Option.{limits, Took, expected_of, options_took, options_values}
+use Rattle.lines.specs.Option.{limit, Took, expected_of, options_took, options_values}
 use Rattle.lines.specs.Call.{longest, words_of, or_else}
 
 -- a whole number's double, as its bits
@@ -52,14 +52,14 @@ settings_of l =
 
 -- every value is within its key's limit
 abbrev pub Within : List (Option ℕ) → Type 0
-Within l = (k : ℕ) → k < key_count → or_else l k 0 ≤ get_or limits k 0
+Within l = (k : ℕ) → k < key_count → or_else l k 0 ≤ limit k
 
 -- where the radio is
 abbrev pub radio_of : Settings → Endpoint
 radio_of s = record { ip = s.radio_ip; port = s.port }
 
 -- what can't be read has the settings of an `open` that says none
-unfoldable pub unread_opening : Expected → Opening
+abbrev pub unread_opening : Expected → Opening
 unread_opening e = record { read = Err e; at = 0; settings = settings_of unsaid }
 
 unfoldable pub opened : Took → List (Option ℕ) → Opening
