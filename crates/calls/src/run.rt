@@ -6,7 +6,7 @@ use super::sessions::{Rooms, after, answered, told};
 use console::output::Output;
 use desk::desk::{Desk, Flags};
 use holding::unused;
-use std::io::{Error, Read};
+use std::io::Read;
 use telling::error;
 
 // What became of a list. The program's status is its number.
@@ -19,29 +19,6 @@ pub(crate) enum Status {
     Failed = 2,
 }
 
-// The list can't be read on from this line.
-fn unread(out: &mut Output, line: u64) -> Status {
-    error::unread(out, line);
-    out.finish();
-    Status::Failed
-}
-
-// What is still to be written goes out.
-fn end(d: &Desk, fault: Option<Error>, name: &[u8], out: &mut Output) -> Status {
-    if let Some(error) = fault {
-        out.tell_fault(name, error);
-        return unread(out, d.line.wrapping_add(1));
-    }
-    if !out.finish() {
-        return Status::Failed;
-    }
-    if d.is_wrong {
-        Status::Wrong
-    } else {
-        Status::Fine
-    }
-}
-
 fn run_lines<R: Read>(
     from: &mut R,
     name: &[u8],
@@ -52,8 +29,9 @@ fn run_lines<R: Read>(
     let mut h = unused(&rooms.samples, &rooms.table);
     let mut p = untold();
     let mut d = Desk::new(flags);
-    let fault = d.run_lines(
+    let is_whole = d.run_lines(
         from,
+        name,
         out,
         |d, line, out|
             requires { Holds h rooms.now.samples rooms.now.table }
@@ -67,7 +45,14 @@ fn run_lines<R: Read>(
             answered(h, before, d, rooms, out);
         },
     );
-    end(&d, fault, name, out)
+    if !is_whole {
+        return Status::Failed;
+    }
+    if d.is_wrong {
+        Status::Wrong
+    } else {
+        Status::Fine
+    }
 }
 
 // Runs the list that is read, whose name is told where it can't be read.
@@ -80,5 +65,7 @@ pub(crate) fn run<R: Read>(rt: &HostRuntime, from: &mut R, name: &[u8], flags: F
 // A list that there is no file of: nothing of it is run.
 pub(crate) fn no_list(rt: &HostRuntime) -> Status {
     let mut out = Output::new(rt.stdout(), rt.stderr());
-    unread(&mut out, 1)
+    error::unread(&mut out, 1);
+    out.finish();
+    Status::Failed
 }

@@ -5,5 +5,5 @@ use borrow.Author.Rules.{rules}
 use Rattle.holding.specs.Held.{Holds}
 use Rattle.calls.proofs.run.run_lines.Goals as goal
 
-pub run_lines-fault-requires : goal.run_lines-fault-requires
-run_lines-fault-requires g c = mut_by _ (λ s. Holds s.1.now s.0.now.samples s.0.now.table) (λ s a i. search rules) (λ s a r t i e. search rules) _ c.unused-h.ensures
+pub run_lines-is_whole-requires : goal.run_lines-is_whole-requires
+run_lines-is_whole-requires g c = mut_by _ (λ s. Holds s.1.now s.0.now.samples s.0.now.table) (λ s a i. search rules) (λ s a r t i e. search rules) _ c.unused-h.ensures
