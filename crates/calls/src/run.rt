@@ -5,7 +5,7 @@ use super::practice::{listened, untold};
 use super::sessions::{Rooms, account_of, after, answered, radio_of, told};
 use console::output::Output;
 use desk::desk::{Desk, Flags};
-use std::io::{Error, Read};
+use std::io::Read;
 use telling::error;
 
 // What became of a list. The program's status is its number.
@@ -18,29 +18,6 @@ pub(crate) enum Status {
     Failed = 2,
 }
 
-// The list can't be read on from this line.
-fn unread(out: &mut Output, line: u64) -> Status {
-    error::unread(out, line);
-    out.finish();
-    Status::Failed
-}
-
-// What is still to be written goes out.
-fn end(d: &Desk, fault: Option<Error>, name: &[u8], out: &mut Output) -> Status {
-    if let Some(error) = fault {
-        out.tell_fault(name, error);
-        return unread(out, d.line.wrapping_add(1));
-    }
-    if !out.finish() {
-        return Status::Failed;
-    }
-    if d.is_wrong {
-        Status::Wrong
-    } else {
-        Status::Fine
-    }
-}
-
 fn run_lines<R: Read>(
     from: &mut R,
     name: &[u8],
@@ -51,8 +28,9 @@ fn run_lines<R: Read>(
     let mut held = None;
     let mut p = untold();
     let mut d = Desk::new(flags);
-    let fault = d.run_lines(
+    let is_whole = d.run_lines(
         from,
+        name,
         out,
         |d, line, out|
             requires { Holds held rooms.now.samples rooms.now.table }
@@ -66,7 +44,14 @@ fn run_lines<R: Read>(
             answered(came, before, d, rooms, out);
         },
     );
-    end(&d, fault, name, out)
+    if !is_whole {
+        return Status::Failed;
+    }
+    if d.is_wrong {
+        Status::Wrong
+    } else {
+        Status::Fine
+    }
 }
 
 // Runs the list that is read, whose name is told where it can't be read.
@@ -79,5 +64,7 @@ pub(crate) fn run<R: Read>(rt: &HostRuntime, from: &mut R, name: &[u8], flags: F
 // A list that there is no file of: nothing of it is run.
 pub(crate) fn no_list(rt: &HostRuntime) -> Status {
     let mut out = Output::new(rt.stdout(), rt.stderr());
-    unread(&mut out, 1)
+    error::unread(&mut out, 1);
+    out.finish();
+    Status::Failed
 }

@@ -1,27 +1,23 @@
 -- The values that a line's words leave are within their limits. Assumes nothing.
-use mathlib.Core.Path.{◌≡◌, refl, sym, ap, ◌∙◌}
-use mathlib.Core.Logic.{◌≢◌}
+use mathlib.Core.Path.{◌≡◌, refl, ap, ◌∙◌}
 use mathlib.Core.Bool.{Bool, true, false}
-use mathlib.Core.List.{List, [], ◌∷◌, ◌++◌}
+use mathlib.Core.List.{List, [], ◌∷◌}
 use Prim.Native.Nat.{ℕ, zero, suc, ◌+◌, ◌≤◌, ◌<◌}
 use native.Mathlib.Omega.{arith}
-use borrow.Author.Tests.{leb-true, leb-false, eqb-true, eqb-false}
+use borrow.Author.Tests.{leb-true, leb-false}
 use lib.Dec.{leb, ltb}
 use lib.ListN.{length, get_or, set, get_or-replicate}
 use Rattle.base.specs.Pick.{pick}
-use Rattle.base.specs.Each.{Each}
-use Rattle.base.proofs.Picks.{pick-either}
 use Rattle.std.specs.Prelude.{Option, Some, None, Ok, Err}
 use Rattle.lines.specs.declared.option.Untaken.TheVariants.{Unknown, Unreadable}
 use Rattle.lines.specs.declared.argument.Kind.{Kind}
 use Rattle.lines.specs.declared.argument.Kind.TheVariants.{Reading}
-use Rattle.lines.specs.declared.option.Spelling.TheVariants.{Number}
 use Rattle.values.specs.Value.{given, up_to}
 use Rattle.lines.specs.Key.{buffer_key, waiting_key, length_key, bits_key, samples_key, key_count, word_count, unread_words, unsaid, most_octets}
 use Rattle.lines.specs.declared.name.Name.{Name}
 use Rattle.lines.specs.Name.{form}
 use Rattle.lines.specs.Argument.{most, argument_as, argument, argument_values}
-use Rattle.lines.specs.Option.{Took, Taken, spellings, limits, spelt_as, said, key_at, value_at, equals_in, value_of, took_key, took, values_key, values_after, and_then, options_took, options_values}
+use Rattle.lines.specs.Option.{Took, Taken, spelling, limit, spelt_as, said, key_at, value_at, equals_in, value_of, took_key, took, values_key, values_after, and_then, options_took, options_values}
 use borrow.Author.Rules.{rules}
 use Rattle.std.specs.Option.{unwrap_or}
 use Rattle.lines.specs.declared.Endpoint.{Endpoint}
@@ -55,14 +51,13 @@ get_or-said-le (x ∷ xs) (suc i) v (suc k) b h e = get_or-said-le xs i v k b h 
 
 -- every key's value is within its key's limit
 pub record HeldKeys (l : List (Option ℕ)) : Type 0 where
-  pub options : (k : ℕ) → k < key_count → or_else l k 0 ≤ get_or limits k 0
+  pub options : (k : ℕ) → k < key_count → or_else l k 0 ≤ limit k
 
 -- every word's of the form is within its own
 pub record HeldWords (name : Name) (l : List ℕ) : Type 0 where
   pub words : (j : ℕ) → j < 4 → get_or l j 0 ≤ most (get_or (form name).words j Reading)
 
 pub held-unsaid : HeldKeys unsaid
-unfolding or_else
 held-unsaid = record { options = λ k h. rw (get_or-replicate {A = Option ℕ} key_count k None None h) (omega arith) }
 
 held-unread : (name : Name) → HeldWords name unread_words
@@ -73,7 +68,7 @@ held_word name l j v h b = record { words = λ i d. get_or-set-le l j v i _ (h.w
 
 pub held-arguments : (name : Name) (ts : List Kind) (ws : List (List ℕ)) (j : ℕ) (l : List ℕ) → j + length ts ≤ 4 → ((i : ℕ) → get_or ts i Reading ≡ get_or (form name).words (j + i) Reading)
     → HeldWords name l → HeldWords name (argument_values j ts ws l)
-unfolding argument_values argument
+unfolding argument_values
 held-arguments name [] ws j l d e h = h
 held-arguments name (t ∷ ts) [] j l d e h = h
 held-arguments name (t ∷ ts) (w ∷ ws) j l d e h =
@@ -101,13 +96,13 @@ took-below from to l w e = go (leb (length w) (equals_in w)) (ltb key from) (leb
     go false false false q e = leb-false to key q
 
 held-option : (from to : ℕ) (l : List (Option ℕ)) (w : List ℕ) → to ≤ key_count → took from to l w ≡ Taken → HeldKeys l → HeldKeys (values_after l w)
-unfolding values_after values_key value_of or_else
+unfolding values_after values_key
 held-option from to l w o t h =
     let k = key_at (equals_in w) w in
     record {
       options =
           λ i d. get_or-said-le l k (given (value_of k (value_at (equals_in w) w)) (λ n. n) 0) i _ (h.options i d)
-          (λ z. rw z (up-to-most (get_or limits k 0) (spelt_as (get_or spellings k Number) (value_at (equals_in w) w))));
+          (λ z. rw z (up-to-most (limit k) (spelt_as (spelling k) (value_at (equals_in w) w))));
     }
 
 and-taken : (a b : Took) → and_then a b ≡ Taken → (a ≡ Taken) × (b ≡ Taken)
@@ -129,7 +124,6 @@ held-form name ws = held-arguments name (form name).words ws 0 unread_words (ome
 -- ---- what the limits give
 
 pub or-else-most : (l : List (Option ℕ)) (key other b : ℕ) → or_else l key 0 ≤ b → other ≤ b → or_else l key other ≤ b
-unfolding or_else
 or-else-most l key other b h o = go (get_or l key None) h
   where
     go : (x : Option ℕ) → unwrap_or x 0 ≤ b → unwrap_or x other ≤ b

@@ -1,7 +1,7 @@
 -- A call by its name, and a line: what each way through gives. Assumes nothing.
 use mathlib.Core.Path.{◌≡◌, refl, sym, ap, ◌∙◌}
 use mathlib.Core.List.{List, []}
-use Prim.Native.Nat.{ℕ, ◌+◌, ◌≤◌, ◌<◌}
+use Prim.Native.Nat.{ℕ, ◌≤◌, ◌<◌}
 use native.Mathlib.Omega.{arith}
 use mathlib.Core.Bool.{true, false}
 use borrow.Author.Tests.{lt-ltb, le-ltb}
@@ -43,7 +43,7 @@ module _ (name : Name) (radio : Endpoint) (lent : Asked) (ws : List (List ℕ)) 
   with d n = record { call = lent.call; octets = d; numbers = n }
 
   pub not-read : (t : Kind) → r ≡ Some t → Named name radio lent ws (Err (expected_word t)) (with e lent.numbers)
-  unfolding read_named worded named_seen if_read
+  unfolding read_named named_seen
   not-read t h =
       let u : unread (form name).words ws ≡ Some t = sym g.told ∙ h in
       record {
@@ -59,7 +59,7 @@ module _ (name : Name) (radio : Endpoint) (lent : Asked) (ws : List (List ℕ)) 
     values-here = g.values h
 
     told_here : optioned q Expected.End (Ok (asks name)) ≡ read_named name ws
-    unfolding read_named worded
+    unfolding read_named
     told_here =
         ap (λ (x : Took). optioned x Expected.End (Ok (asks name)))
         (o.told
@@ -68,7 +68,7 @@ module _ (name : Name) (radio : Endpoint) (lent : Asked) (ws : List (List ℕ)) 
         ∙ sym (ap (λ (x : Option Kind). worded x (optioned (options_took buffer_key (form name).keys_end unsaid (options_of name ws)) Expected.End (Ok (asks name)))) (sym g.told ∙ h))
 
     seen_here : n2 ≡ named_seen name ws lent.numbers
-    unfolding named_seen if_read
+    unfolding named_seen
     seen_here =
         o.seen
         ∙ ap (λ (x : ℕ). options_seen buffer_key x unsaid lent.numbers (words left)) k
@@ -86,12 +86,10 @@ module _ (name : Name) (radio : Endpoint) (lent : Asked) (ws : List (List ℕ)) 
         }
 
     pub untaken : (x : Untaken) → q ≡ Err x → Named name radio lent ws (Err (expected_of x Expected.End)) (with e n2)
-    unfolding optioned
     untaken x t = stopped _ (λ q. let z : ◌≡◌ {A = ℕ} 0 1 = cc in omega arith) (rw t at told_here)
 
     module _ (t : q ≡ Taken) where
       named_here : Ok (asks name) ≡ read_named name ws
-      unfolding optioned
       named_here = rw t at told_here
 
       pub asked : (r : Read) → r ≡ asks name → (r ≡ Read.Call → ⊥) → Named name radio lent ws (Ok r) (with e n2)

@@ -13,7 +13,7 @@ use Rattle.std.specs.Prelude.{Some, None}
 use Rattle.lines.specs.declared.argument.Kind.{Kind}
 use Rattle.lines.specs.declared.argument.Kind.TheVariants.{Reading, Number, Octet, Places, Sender, Octets}
 use Rattle.lines.specs.Key.{most_octets}
-use Rattle.lines.specs.Argument.{argument_as, argument, of_octets, octets_as, octets_seen_as, unread, argument_values, argument_octets, arguments_seen, arguments_rest, Arguments}
+use Rattle.lines.specs.Argument.{argument, octets_as, octets_seen_as, unread, argument_values, argument_octets, arguments_seen, arguments_rest, Arguments}
 use Rattle.values.specs.Octets.{octet_count}
 use Rattle.values.proofs.Values.{given-no, given_yes, up-to-number}
 use Rattle.values.proofs.Hexadecimals.{seen-octets}
@@ -21,7 +21,6 @@ use Rattle.values.proofs.Hexadecimals.{seen-octets}
 -- ---- of a word that can be read, what was seen is the whole of it
 
 seen-whole : (t : Kind) (w d : List ℕ) (v : ℕ) → argument t w ≡ Some v → octets_seen_as t w d ≡ octets_as t w d
-unfolding argument argument_as octets_seen_as octets_as of_octets
 seen-whole Reading w d v e = refl
 seen-whole Number w d v e = refl
 seen-whole Octet w d v e = refl

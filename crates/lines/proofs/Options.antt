@@ -7,7 +7,7 @@ use borrow.Author.Tests.{lt-ltb, le-ltb, le-leb, lt-leb}
 use mathlib.Core.Bool.{Bool, true, false}
 use lib.Dec.{ltb}
 use Rattle.lines.specs.Key.{key_count}
-use lib.ListN.{length, drop, get_or, set}
+use lib.ListN.{length, get_or, set}
 use Rattle.base.proofs.Picks.{pick-t, pick-f}
 use Rattle.octets.specs.Written.{written}
 use Rattle.text.specs.Split.{words, FirstWord}
@@ -16,14 +16,13 @@ use Rattle.lines.specs.declared.option.Spelling.{Spelling}
 use Rattle.lines.specs.declared.option.Spelling.TheVariants.{Number, Reading, Double, Address, Board, Attenuation, Waiting}
 use Rattle.lines.specs.declared.option.Untaken.{Untaken}
 use Rattle.lines.specs.declared.option.Untaken.TheVariants.{Unknown, Unreadable}
-use Rattle.lines.specs.Option.{Took, Taken, of_waiting, spellings, limits, spelt_as, numbers_as, numbers_seen_as, numbers_seen_for, key_at, value_at, equals_in, took_key, values_key, took, values_after, numbers_after, if_known, numbers_seen, value_of, numbers_for, Stepped, and_then, options_took, options_values, options_numbers, stopped, options_seen, options_rest, Ran}
+use Rattle.lines.specs.Option.{Took, Taken, spelling, limit, spelt_as, numbers_as, numbers_seen_as, numbers_seen_for, key_at, value_at, equals_in, took_key, values_key, took, values_after, numbers_after, if_known, numbers_seen, value_of, numbers_for, Stepped, and_then, options_took, options_values, options_numbers, stopped, options_seen, options_rest, Ran}
 use Rattle.values.proofs.Values.{given-no, given_yes, up-to-number}
 use Rattle.values.proofs.Spans.{seen-numbers}
 
 -- ---- of a value that can be read, what was seen is the whole of it
 
 seen_as : (how : Spelling) (w d : List ℕ) (v : ℕ) → spelt_as how w ≡ Some v → numbers_seen_as how w d ≡ numbers_as how w d
-unfolding spelt_as numbers_seen_as numbers_as of_waiting
 seen_as Number w d v e = refl
 seen_as Reading w d v e = refl
 seen_as Double w d v e = refl
@@ -33,8 +32,7 @@ seen_as Attenuation w d v e = refl
 seen_as Waiting w d v e = ap (written d 0) (seen-numbers w v e)
 
 seen-whole : (key : ℕ) (w d : List ℕ) (v : ℕ) → value_of key w ≡ Some v → numbers_seen_for key w d ≡ numbers_for key w d
-unfolding value_of
-seen-whole key w d v e = seen_as (get_or spellings key Number) w d v (up-to-number (get_or limits key 0) (spelt_as (get_or spellings key Number) w) v e)
+seen-whole key w d v e = seen_as (spelling key) w d v (up-to-number (limit key) (spelt_as (spelling key) w) v e)
 
 -- ---- a word
 

@@ -36,11 +36,11 @@ module _ (name : Name) (ws : List (List ℕ)) where
 
   module _ (f : is name Open ≡ false) (d : List ℕ) (r : Option Kind) (left m e : List ℕ) (g : Arguments (form name).words unread_words d ws r left m e) where
     pub at-word : (t : Kind) → r ≡ Some t → words left ≡ rest_named name ws
-    unfolding rest_named if_read
+    unfolding rest_named
     at-word t h = let u : unread (form name).words ws ≡ Some t = sym g.told ∙ h in g.rest ∙ sym (pick-f _ _ _ f ∙ rw u)
 
     pub at_option : r ≡ None → (to : ℕ) → to ≡ (form name).keys_end → options_rest buffer_key to unsaid (words left) ≡ rest_named name ws
-    unfolding rest_named if_read
+    unfolding rest_named
     at_option h to k =
         ap (λ (x : ℕ). options_rest buffer_key x unsaid (words left)) k
         ∙ ap (options_rest buffer_key (form name).keys_end unsaid) (g.follows h)

@@ -18,7 +18,7 @@ most Places = 1024
 most Sender = 281474976776191
 most Octets = most_octets
 
-unfoldable pub argument_as : Kind → List ℕ → Option ℕ
+abbrev pub argument_as : Kind → List ℕ → Option ℕ
 argument_as Reading w = reading w
 argument_as Number w = digits_of 10 w
 argument_as Octet w = digits_of 10 w
@@ -26,11 +26,11 @@ argument_as Places w = digits_of 10 w
 argument_as Sender w = sender w
 argument_as Octets w = octet_count w
 
-unfoldable pub argument : Kind → List ℕ → Option ℕ
+abbrev pub argument : Kind → List ℕ → Option ℕ
 argument t w = up_to (most t) (argument_as t w)
 
 -- what is of octets, and what of another word
-unfoldable pub of_octets : {A : Type 0} → Kind → A → A → A
+abbrev pub of_octets : {A : Type 0} → Kind → A → A → A
 of_octets Reading x y = y
 of_octets Number x y = y
 of_octets Octet x y = y
@@ -39,11 +39,11 @@ of_octets Sender x y = y
 of_octets Octets x y = x
 
 -- the lent octets after it was read
-unfoldable pub octets_as : Kind → List ℕ → List ℕ → List ℕ
+abbrev pub octets_as : Kind → List ℕ → List ℕ → List ℕ
 octets_as t w d = of_octets t (written d 0 (octets_of w)) d
 
 -- the lent octets where its reading ended, whether it could be read or not
-unfoldable pub octets_seen_as : Kind → List ℕ → List ℕ → List ℕ
+abbrev pub octets_seen_as : Kind → List ℕ → List ℕ → List ℕ
 octets_seen_as t w d = of_octets t (written d 0 (octets_seen w)) d
 
 -- ---- the words of a form, in order
@@ -55,7 +55,7 @@ unread (t ∷ ts) [] = Some t
 unread (t ∷ ts) (w ∷ ws) = given (argument t w) (λ n. unread ts ws) (Some t)
 
 -- the one where every word is read, else the other
-unfoldable pub if_read : {A : Type 0} → Option Kind → A → A → A
+abbrev pub if_read : {A : Type 0} → Option Kind → A → A → A
 if_read None x y = x
 if_read (Some t) x y = y
 

@@ -26,7 +26,7 @@ use Rattle.values.specs.Datagram.{iq_octets, status_octets}
 abbrev pub Told : Type 0
 Told = Result Read Expected
 
-unfoldable pub expected_word : Kind → Expected
+abbrev pub expected_word : Kind → Expected
 expected_word Reading = Expected.Reading
 expected_word Number = Expected.DatagramNumber
 expected_word Octet = Expected.Octet
@@ -35,7 +35,7 @@ expected_word Sender = Expected.Sender
 expected_word Octets = Expected.Octets
 
 -- a run of options, where an unknown word is answered by e
-unfoldable pub optioned : Took → Expected → Told → Told
+abbrev pub optioned : Took → Expected → Told → Told
 optioned (Ok u) e r = r
 optioned (Err x) e r = Err (expected_of x e)
 
@@ -50,7 +50,7 @@ abbrev pub asks : Name → Read
 asks name = if is name State then Read.State else if is name Radio then Read.Radio else if is name Open then Read.Open else Read.Call
 
 -- a line whose first word is told that isn't there or can't be read; r where every word is read
-unfoldable pub worded : Option Kind → Told → Told
+abbrev pub worded : Option Kind → Told → Told
 worded None r = r
 worded (Some t) r = Err (expected_word t)
 
@@ -87,7 +87,7 @@ unfoldable pub values_of : Name → List (List ℕ) → Values
 values_of name ws = record { words = arguments_of name ws; keys = options_values unsaid (options_of name ws) }
 
 -- a key's value, or what it is where it is left out
-unfoldable pub or_else : List (Option ℕ) → ℕ → ℕ → ℕ
+abbrev pub or_else : List (Option ℕ) → ℕ → ℕ → ℕ
 or_else l key other = unwrap_or (get_or l key None) other
 
 abbrev pub later_of : Name → Values → ℕ

@@ -1,5 +1,5 @@
 -- What stands in a line: its first word, and the word at which its reading stops. Definitions only.
-use Rattle.std.specs.Prelude.{ℕ, List, [], ◌∷◌, length, get_or, Option, Some, None}
+use Rattle.std.specs.Prelude.{ℕ, List, [], ◌∷◌, get_or, Option, Some, None}
 use Rattle.base.specs.Pick.{pick}
 use Rattle.lines.specs.Key.{buffer_key, settings, key_count, unsaid}
 use Rattle.lines.specs.declared.name.Name.{Name}

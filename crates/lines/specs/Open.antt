@@ -14,14 +14,14 @@ use Rattle.lines.specs.Key.{settings, at_key, receivers_key, centres_key, rate_k
 use Rattle.lines.specs.declared.name.Name.{Name}
 use Rattle.lines.specs.declared.name.Name.TheVariants.{Open}
 use Rattle.lines.specs.Name.{name_of, is}
-use Rattle.lines.specs.Option.{limits, Took, expected_of, options_took, options_values}
+use Rattle.lines.specs.Option.{limit, Took, expected_of, options_took, options_values}
 use Rattle.lines.specs.Call.{longest, words_of, or_else}
 
 -- a whole number's double, as its bits
 abbrev pub bits_of : ℕ → ℕ
 bits_of n = to_bits binary64 (of_int binary64 (pos n))
 
-unfoldable pub double_or : List (Option ℕ) → ℕ → ℕ → Float
+abbrev pub double_or : List (Option ℕ) → ℕ → ℕ → Float
 double_or l key other = of_bits binary64 (or_else l key other)
 
 abbrev pub board_id : ℕ → Option ℕ
@@ -52,14 +52,14 @@ settings_of l =
 
 -- every value is within its key's limit
 abbrev pub Within : List (Option ℕ) → Type 0
-Within l = (k : ℕ) → k < key_count → or_else l k 0 ≤ get_or limits k 0
+Within l = (k : ℕ) → k < key_count → or_else l k 0 ≤ limit k
 
 -- where the radio is
 abbrev pub radio_of : Settings → Endpoint
 radio_of s = record { ip = s.radio_ip; port = s.port }
 
 -- what can't be read has the settings of an `open` that says none
-unfoldable pub unread_opening : Expected → Opening
+abbrev pub unread_opening : Expected → Opening
 unread_opening e = record { read = Err e; at = 0; settings = settings_of unsaid }
 
 unfoldable pub opened : Took → List (Option ℕ) → Opening

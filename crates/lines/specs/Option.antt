@@ -1,5 +1,5 @@
 -- Options, key=value: what each key takes, and what a run of them leaves. Definitions only.
-use Rattle.std.specs.Prelude.{ℕ, ◌+◌, ◌≡◌, Bool, List, [], ◌∷◌, map, ltb, leb, length, take, drop, get_or, set, is_some, ⊤, Option, Some, None, Result, Ok, Err}
+use Rattle.std.specs.Prelude.{ℕ, ◌+◌, ◌≡◌, Bool, List, [], ◌∷◌, ltb, leb, length, take, drop, get_or, set, is_some, ⊤, Option, Some, None, Result, Ok, Err}
 use Rattle.base.specs.Pick.{pick}
 use Rattle.octets.specs.Written.{written}
 use Rattle.text.specs.Run.{run, other}
@@ -38,19 +38,19 @@ key_forms =
     ∷ (Number, 4294967295)
     ∷ []
 
-abbrev pub spellings : List Spelling
-spellings = map (λ f. f.0) key_forms
+abbrev pub spelling : ℕ → Spelling
+spelling key = (get_or key_forms key (Number, 0)).0
 
-abbrev pub limits : List ℕ
-limits = map (λ f. f.1) key_forms
+abbrev pub limit : ℕ → ℕ
+limit key = (get_or key_forms key (Number, 0)).1
 
-unfoldable pub board : List ℕ → Option ℕ
+abbrev pub board : List ℕ → Option ℕ
 board w = pick (same w (ascii "skipped")) (Some 256) (number 255 w)
 
 unfoldable pub attenuation : List ℕ → Option ℕ
 attenuation w = up_to 2 (Some (place w (named ("off" ∷ "on" ∷ "unsaid" ∷ []))))
 
-unfoldable pub spelt_as : Spelling → List ℕ → Option ℕ
+abbrev pub spelt_as : Spelling → List ℕ → Option ℕ
 spelt_as Number w = digits_of 10 w
 spelt_as Reading w = reading w
 spelt_as Double w = double w
@@ -59,11 +59,11 @@ spelt_as Board w = board w
 spelt_as Attenuation w = attenuation w
 spelt_as Waiting w = waiting_count w
 
-unfoldable pub value_of : ℕ → List ℕ → Option ℕ
-value_of key w = up_to (get_or limits key 0) (spelt_as (get_or spellings key Number) w)
+abbrev pub value_of : ℕ → List ℕ → Option ℕ
+value_of key w = up_to (limit key) (spelt_as (spelling key) w)
 
 -- what is of waiting numbers, and what of another value
-unfoldable pub of_waiting : {A : Type 0} → Spelling → A → A → A
+abbrev pub of_waiting : {A : Type 0} → Spelling → A → A → A
 of_waiting Number x y = y
 of_waiting Reading x y = y
 of_waiting Double x y = y
@@ -73,18 +73,18 @@ of_waiting Attenuation x y = y
 of_waiting Waiting x y = x
 
 -- the lent numbers after a value was read
-unfoldable pub numbers_as : Spelling → List ℕ → List ℕ → List ℕ
+abbrev pub numbers_as : Spelling → List ℕ → List ℕ → List ℕ
 numbers_as how w d = of_waiting how (written d 0 (waiting_numbers w)) d
 
 abbrev pub numbers_for : ℕ → List ℕ → List ℕ → List ℕ
-numbers_for key w d = numbers_as (get_or spellings key Number) w d
+numbers_for key w d = numbers_as (spelling key) w d
 
 -- the lent numbers where its reading ended, whether it could be read or not
-unfoldable pub numbers_seen_as : Spelling → List ℕ → List ℕ → List ℕ
+abbrev pub numbers_seen_as : Spelling → List ℕ → List ℕ → List ℕ
 numbers_seen_as how w d = of_waiting how (written d 0 (waiting_seen w)) d
 
 abbrev pub numbers_seen_for : ℕ → List ℕ → List ℕ → List ℕ
-numbers_seen_for key w d = numbers_seen_as (get_or spellings key Number) w d
+numbers_seen_for key w d = numbers_seen_as (spelling key) w d
 
 -- ---- a word: its key and its value
 
@@ -105,7 +105,7 @@ abbrev pub Taken : Took
 Taken = Ok tt
 
 -- what was expected of a word that is not taken, where `other` is expected in place of an unknown one
-unfoldable pub expected_of : Untaken → Expected → Expected
+abbrev pub expected_of : Untaken → Expected → Expected
 expected_of Unknown other = other
 expected_of (Unreadable k) other = Expected.ValueOf k
 

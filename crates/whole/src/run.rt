@@ -8,8 +8,6 @@ use console::output::Output;
 use desk::desk::{Desk, Flags, Request};
 use lines::{Endpoint, Opening, read_open};
 use opening::settings::validate_protocol2;
-use std::io::{Error, Read};
-use telling::error;
 
 // The session in hand: the number of its `open`, what that line says, and where its radio is, unless its settings are refused.
 #[derive(Clone, Copy)]
@@ -39,15 +37,6 @@ fn run_session(d: &mut Desk, sitting: Sitting, list: &List, out: &mut Output) {
     tell(d, sitting, left, list, &answers, out)
 }
 
-// What is still to be written goes out. An input that failed is no end of the list: that is told, and its session is not run.
-fn end(d: &Desk, fault: Option<Error>, out: &mut Output) {
-    if let Some(error) = fault {
-        out.tell_fault(b"standard input", error);
-        error::unread(out, d.line.wrapping_add(1));
-    }
-    out.finish();
-}
-
 // The line in hand. An `open` and the end run the session before, and an `open` has a session of its own then.
 fn run_line(
     d: &mut Desk,
@@ -66,18 +55,18 @@ fn run_line(
     }
 }
 
-fn run_lines<R: Read>(from: &mut R, list: &mut List, out: &mut Output) {
-    let mut sitting = None;
-    let mut d = Desk::new(Flags::default());
-    let fault = d.run_lines(from, out, |d, line, out| {
-        sitting = run_line(d, line, sitting, list, out);
-    });
-    end(&d, fault, out)
-}
-
-// Runs the list of standard input.
+// Runs the list of standard input. One that can't be read on is told, and its session is not run.
 pub(crate) fn run(rt: &HostRuntime) {
+    let mut sitting = None;
     let mut list = List::new();
     let mut out = Output::new(rt.stdout(), rt.stderr());
-    run_lines(&mut rt.stdin(), &mut list, &mut out)
+    let mut d = Desk::new(Flags::default());
+    d.run_lines(
+        &mut rt.stdin(),
+        b"standard input",
+        &mut out,
+        |d, line, out| {
+            sitting = run_line(d, line, sitting, &mut list, out);
+        },
+    );
 }

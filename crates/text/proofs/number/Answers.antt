@@ -3,12 +3,6 @@ use mathlib.Core.Path.{sym, ◌∙◌}
 use Rattle.text.proofs.Spelling.{hex-number, plain-number}
 use Rattle.text.proofs.number.Goals as goal
 
-pub slice_bounds-digits-count : goal.slice_bounds-digits-count
-slice_bounds-digits-count c = c.is_hex.ensures.1 c.if-is_hex.true
-
-pub slice_bounds-digits-start : goal.slice_bounds-digits-start
-slice_bounds-digits-start c = c.is_hex.ensures.1 c.if-is_hex.true
-
 pub returns-then-is_hex : goal.returns-then-is_hex
 returns-then-is_hex c = c.digits.ensures ∙ hex-number _ (sym c.is_hex.ensures.0 ∙ c.if-is_hex.true)
 

@@ -1,15 +1,10 @@
 -- `text::place_of` goes over the names one by one. Assumes nothing.
 use mathlib.Core.Path.{sym, ◌∙◌}
 use mathlib.Core.Bool.{true≢false}
-use native.Mathlib.Nat.{zero-add}
-use borrow.Author.Rules.{rules}
 use Rattle.std.proofs.lemmas.Bool.Decides.{Decides-eqb}
 use Rattle.std.proofs.lemmas.Slice.Eq.{slice_eq-Decides}
 use Rattle.text.proofs.Names.{not_there, there, go_on}
 use Rattle.text.proofs.place_of.Goals as goal
-
-pub loop-name-init : goal.loop-name-init
-loop-name-init c = (search rules, sym (zero-add _), sym (zero-add _))
 
 pub returns-then-eq : goal.returns-then-eq
 returns-then-eq c = there _ _ _ _ c.loop-name.invariant _ _ c.in-Some.ensures ((slice_eq-Decides Decides-eqb _ _ _ c.eq.ensures).0 c.if-eq.true)

@@ -3,8 +3,6 @@ use mathlib.Core.Path.{◌≡◌, sym, ap, ◌∙◌}
 use Prim.Native.Nat.{ℕ, ◌-◌}
 use borrow.Author.Rules.{rules}
 use lib.ListN.{length, take, drop}
-use Rattle.text.specs.Run.{run}
-use Rattle.text.specs.Split.{blank}
 use Rattle.text.proofs.Splits.{no_word, one_word, to_the_end}
 use Rattle.text.proofs.split_word.Goals as goal
 

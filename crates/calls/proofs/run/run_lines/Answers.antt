@@ -6,5 +6,5 @@ use Rattle.holding.specs.Held.{Holds}
 use Rattle.holding.proofs.Keeps.{holds-none}
 use Rattle.calls.proofs.run.run_lines.Goals as goal
 
-pub run_lines-fault-requires : goal.run_lines-fault-requires
-run_lines-fault-requires g c = mut_by _ (λ s. Holds s.0.now s.1.now.samples s.1.now.table) (λ s a i. search rules) (λ s a r t i e. search rules) _ (holds-none _ _)
+pub run_lines-is_whole-requires : goal.run_lines-is_whole-requires
+run_lines-is_whole-requires g c = mut_by _ (λ s. Holds s.0.now s.1.now.samples s.1.now.table) (λ s a i. search rules) (λ s a r t i e. search rules) _ (holds-none _ _)

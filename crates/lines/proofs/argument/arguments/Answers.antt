@@ -2,32 +2,21 @@
 use mathlib.Core.Path.{sym, ap, ◌∙◌}
 use mathlib.Core.List.{List}
 use native.Mathlib.Omega.{arith}
-use borrow.Author.Rules.{rules}
 use lib.ListN.{length, get_or}
 use Rattle.lines.specs.declared.argument.Kind.{Kind}
 use Rattle.lines.specs.declared.argument.Kind.TheVariants.{Reading}
-use Rattle.lines.proofs.Forms.{four-words}
-use Rattle.lines.proofs.Fillings.{filling, filled, not_there, not-read, read-on}
+use Rattle.lines.proofs.Fillings.{filled, not_there, not-read, read-on}
 use Rattle.lines.proofs.argument.arguments.Goals as goal
-
-pub loop-j-init : goal.loop-j-init
-loop-j-init c = filling _ _ _ _
 
 pub returns-in_default : goal.returns-in_default
 returns-in_default c =
     let f = c.words-kind-items.ensures in
     not_there _ _ _ _ _ _ _ _ c.loop-j.invariant (omega (arith, ap length f, c.loop-j-test.true)) _ (ap (λ (x : List Kind). get_or x c.loop-j.j Reading) f) c.in_default.ensures
 
-pub argument-requires : goal.argument-requires
-argument-requires c = omega (arith, c.loop-j.invariant.as_many)
-
 pub returns-in_default-argument : goal.returns-in_default-argument
 returns-in_default-argument c =
     let f = c.words-kind-items.ensures in
     not-read _ _ _ _ _ _ _ _ c.loop-j.invariant (omega (arith, ap length f, c.loop-j-test.true)) _ (ap (λ (x : List Kind). get_or x c.loop-j.j Reading) f) _ _ c.in-Some.ensures _ (sym c.argument.ensures.0 ∙ c.in_default-argument.is) c.argument.ensures.1
-
-pub bounds-values-j : goal.bounds-values-j
-bounds-values-j c = omega (arith, four-words c.args.name, ap length c.words-kind-items.ensures, c.loop-j-test.true, c.loop-j.invariant.as_long)
 
 pub loop-j-preserved : goal.loop-j-preserved
 loop-j-preserved c =

@@ -1,12 +1,8 @@
 -- `lines::call::read_named` reads the call's words, then its options, and writes what they say. Assumes nothing.
-use Prim.Native.Nat.{◌+◌}
 use mathlib.Core.Path.{sym, ◌∙◌}
 use mathlib.Core.Bool.{true≢false}
 use denote.Enum.Bare.{same_true}
 use Rattle.lines.specs.contracts.Read.{the_type}
-use mathlib.Core.List.{[]}
-use native.Mathlib.Omega.{arith}
-use Rattle.lines.proofs.Forms.{keys-within}
 use Rattle.lines.proofs.Bounds.{small}
 use Rattle.lines.proofs.Calls.{not-read, untaken, asked, held-words, held-keys, done}
 use borrow.Author.Rules.{rules}
@@ -14,9 +10,6 @@ use Rattle.lines.proofs.call.read_named.Goals as goal
 
 pub returns-in-Some : goal.returns-in-Some
 returns-in-Some c = rw c.expected_word.ensures (not-read _ _ _ _ _ _ _ _ c.arguments-given.ensures _ c.in-Some.is)
-
-pub options-run-requires : goal.options-run-requires
-options-run-requires c = (omega (arith, c.keys_end-end.ensures, keys-within c.args.name), search rules, search rules)
 
 pub returns-in-Err : goal.returns-in-Err
 returns-in-Err c = rw c.expected.ensures (untaken _ _ _ _ _ _ _ _ c.arguments-given.ensures c.in_default.is _ c.keys_end-end.ensures _ _ _ c.options-run.ensures.0 _ c.in-Err.is)

@@ -4,13 +4,10 @@ use borrow.Author.Rules.{rules}
 use Rattle.text.specs.Name.{ascii}
 use Rattle.text.proofs.Names.{eq-told}
 use Rattle.base.proofs.Picks.{pick-t, pick-f}
-use Rattle.lines.specs.Option.{board}
 use Rattle.lines.proofs.option.board.Goals as goal
 
 pub returns-then-eq : goal.returns-then-eq
-unfolding board
 returns-then-eq c = sym (pick-t _ _ _ (sym (eq-told c.args.w.now (ascii "skipped") _ (search rules)) ∙ c.if-eq.true))
 
 pub returns : goal.returns
-unfolding board
 returns c = c.number.ensures ∙ sym (pick-f _ _ _ (sym (eq-told c.args.w.now (ascii "skipped") _ (search rules)) ∙ c.if-eq.false))

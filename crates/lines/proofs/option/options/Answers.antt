@@ -1,10 +1,7 @@
 -- `lines::option::options` takes the words one by one. Assumes nothing.
-use Rattle.lines.proofs.Options.{running, no_more, no-rest, stops-there, stops-untaken, goes_on, why, was-taken}
+use Rattle.lines.proofs.Options.{no_more, no-rest, stops-there, stops-untaken, goes_on, why, was-taken}
 use mathlib.Core.Path.{sym, ◌∙◌}
 use Rattle.lines.proofs.option.options.Goals as goal
-
-pub loop-word-init : goal.loop-word-init
-loop-word-init c = running _ _ _ _ _
 
 pub returns : goal.returns
 returns c = (no_more _ _ _ _ _ _ _ _ c.loop-word.invariant c.in_default.ensures, no-rest _ _ _ _ _ _ _ _ c.loop-word.invariant c.in_default.ensures)

@@ -3,7 +3,6 @@ use Prim.Native.Nat.{ℕ, ◌+◌}
 use mathlib.Core.Path.{◌≡◌, refl, sym, ap, ◌∙◌}
 use mathlib.Core.List.{List}
 use lib.ListN.{take}
-use lib.Seq.{length-take-le}
 use native.Mathlib.Omega.{arith}
 use Rattle.std.specs.Prelude.{Some, None, Err}
 use Rattle.std.proofs.lemmas.Grind.{common_steps}
@@ -19,9 +18,6 @@ use Rattle.lines.proofs.option.take_option.Goals as goal
 
 pub returns-then-w-equals : goal.returns-then-w-equals
 returns-then-w-equals c = no-equals _ _ _ _ _ _ _ c.find-equals.ensures.0 c.if-w-equals.true
-
-pub slice_bounds-place_of-end : goal.slice_bounds-place_of-end
-slice_bounds-place_of-end c = sym (length-take-le c.find-equals.result c.args.w.now c.find-equals.ensures.1)
 
 pub returns-in_err-key : goal.returns-in_err-key
 returns-in_err-key c =
