@@ -80,6 +80,7 @@ fn down(db: u8) -> u8
 
 impl Controller {
     // A controller whose quiet time starts now; a level above the most is the most.
+    #[tactic(auto, unfolding(crate::specs::Controller::opened))]
     pub fn new(db: u8, now: u64, timing: Timing) -> Self
         ensures { result ≡ opened db now timing }
     {
@@ -93,6 +94,7 @@ impl Controller {
     }
 
     // The start of the run that an overload now belongs to: the run goes on until the hold has lapsed.
+    #[tactic(auto, unfolding(base::specs::Pick::pick, crate::specs::Controller::run_start_of))]
     fn run_at(self, now: u64) -> u64
         ensures { result ≡ run_start_of self now }
     {
@@ -116,6 +118,7 @@ impl Controller {
     }
 
     // Whether an overload now, in a run since `start`, raises the attenuation.
+    #[tactic(auto, unfolding(crate::specs::Controller::trips))]
     fn trips(self, start: u64, now: u64) -> bool
         ensures { result ≡ trips self start now }
     {
@@ -126,6 +129,7 @@ impl Controller {
     }
 
     // A status packet's overload bit, read now. A clear one changes nothing: the run ends when the hold lapses.
+    #[tactic(auto, unfolding(base::specs::Pick::pick, crate::specs::Controller::observed, crate::specs::Controller::overload))]
     pub fn observe(&mut self, overloaded: bool, now: u64) -> Option<AttenuationStep>
         ensures { record { step = result; controller = self.new } ≡ observed self.old overloaded now }
     {
@@ -148,6 +152,7 @@ impl Controller {
     }
 
     // Whether the quiet time is over, and there is a level to lower.
+    #[tactic(auto, unfolding(crate::specs::Controller::releases))]
     fn releases(self, now: u64) -> bool
         ensures { result ≡ releases self now }
     {
@@ -166,6 +171,7 @@ impl Controller {
     }
 
     // Lowers the attenuation by one step where the quiet time is over.
+    #[tactic(auto, unfolding(base::specs::Pick::pick, crate::specs::Controller::ticked))]
     pub fn tick(&mut self, now: u64) -> Option<AttenuationStep>
         ensures { record { step = result; controller = self.new } ≡ ticked self.old now }
     {

@@ -52,6 +52,7 @@ fn get_u32_le(p: &[u8], at: usize) -> u32
 }
 
 // The upper three octets of w in the other order.
+#[tactic(auto, unfolding(crate::specs::Turn::turned_of))]
 fn turned(w: u32) -> u32
     ensures { result ≡ turned_of w }
 {

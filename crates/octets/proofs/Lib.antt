@@ -3,7 +3,6 @@ pub mod Tables
 pub mod Writes
 pub mod Puts
 pub mod Numbers
-pub mod Zeros
 pub mod Packets
 pub mod Orders
 pub mod Shapes

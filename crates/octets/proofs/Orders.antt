@@ -1,11 +1,11 @@
 -- Lists of octets: the same is equal, and where no octet is above its counterpart the list is at most the other. Assumes nothing.
 use Prim.Native.Nat.{ℕ, zero, suc, ◌≤◌, ◌<◌}
-use mathlib.Core.Path.{◌≡◌, refl, sym, ap, ◌∙◌, subst}
+use mathlib.Core.Path.{◌≡◌, refl}
 use mathlib.Core.Bool.{Bool, true, false, ◌&&◌, ◌||◌}
 use mathlib.Core.Logic.{⊎_elim}
 use mathlib.Core.List.{List, [], ◌∷◌}
 use lib.ListN.{length, get_or}
-use lib.Dec.{T, eqb, ltb, eqb→eq, eqb_refl}
+use lib.Dec.{T, eqb, ltb, eqb→eq}
 use lib.Ieee.Fits.{and_l, and_r}
 use native.Mathlib.Nat.{eq-or-lt_of_le}
 use native.Mathlib.Omega.{arith}

@@ -7,7 +7,6 @@ use mathlib.Core.List.{List, [], ◌∷◌, ◌++◌}
 use lib.ListN.{length, get_or, set, drop, length-set, length-replicate, get_or-replicate}
 use lib.Dec.{T, leb, eqb, leb→le, eqb→eq}
 use lib.Ieee.Fits.{and_l, and_r}
-use borrow.Author.Fill.{fill_more}
 use native.Mathlib.Nat.{add-zero, mod-eq_of_lt}
 use native.Mathlib.Omega.{arith}
 use Rattle.base.specs.Each.{Each}
@@ -26,19 +25,6 @@ length-zeros n = length-replicate n 0
 pub get_or-zeros : (n i : ℕ) → i < n → get_or (zeros n) i 0 ≡ 0
 unfolding zeros
 get_or-zeros n i h = get_or-replicate n i 0 0 h
-
--- no turn of the loop that clears
-pub zeros-none : (d : List ℕ) → d ≡ written d 0 (zeros 0)
-unfolding zeros
-zeros-none d = sym (written-front d [] 0 refl)
-
--- one turn more
-pub zeros-more : (n : ℕ) (d : List ℕ) → n < length d → set (written d 0 (zeros n)) n 0 ≡ written d 0 (zeros (n + 1))
-unfolding zeros
-zeros-more n d h =
-    ap (λ (l : List ℕ). set l n 0) (written-front d (zeros n) n (length-zeros n))
-    ∙ fill_more n 0 d h
-    ∙ sym (written-front d (zeros (n + 1)) (n + 1) (length-zeros (n + 1)))
 
 -- ---- what the tests of the fields' places say
 

@@ -1,5 +1,5 @@
 -- When octets are the packet of named fields: each field reads its value, and between the fields all is 0. Assumes nothing.
-use Prim.Native.Nat.{ℕ, zero, suc, ◌+◌, ◌-◌, ◌%◌, ◌^◌, ◌≤◌, ◌<◌}
+use Prim.Native.Nat.{ℕ, ◌+◌, ◌-◌, ◌^◌, ◌≤◌, ◌<◌}
 use mathlib.Core.Path.{◌≡◌, refl, sym, ap, ◌∙◌, subst}
 use mathlib.Core.Bool.{Bool, true, false, ◌&&◌, ◌||◌}
 use mathlib.Core.Logic.{inl, inr, ⊎_elim}
@@ -16,7 +16,7 @@ use Rattle.octets.specs.Number.{be, be_at}
 use Rattle.octets.specs.Packet.{zeros, Field, stored, packet, within, outside, apart, Zero}
 use Rattle.octets.specs.Order.{Octets, same}
 use Rattle.octets.proofs.Writes.{get_or-written-in, get_or-written-out}
-use Rattle.octets.proofs.Numbers.{length-be, be-octet, be_at-lt, be-be_at}
+use Rattle.octets.proofs.Numbers.{be-octet, be_at-lt, be-be_at}
 use Rattle.octets.proofs.Packets.{either, with_field, others, fits, fits-be, kept, length-packet, length-zeros, get_or-zeros, stored-outside, unnamed, read_back, each_both}
 use Rattle.octets.proofs.Orders.{same_refl, same-is}
 

@@ -21,6 +21,7 @@ pub fn get_u32(p: &[u8], at: usize) -> u32
     u32::from_be_bytes([p[at], p[at + 1], p[at + 2], p[at + 3]])
 }
 
+#[tactic(auto, unfolding(crate::specs::Written::written))]
 pub fn put_u16(p: &mut [u8], at: usize, v: u16)
     requires { at + 2 ≤ length p.old }
     ensures { p.new ≡ written p.old at (be 2 v) }
@@ -29,6 +30,7 @@ pub fn put_u16(p: &mut [u8], at: usize, v: u16)
 }
 
 // The lower 24 bits of v.
+#[tactic(auto, unfolding(crate::specs::Written::written))]
 pub fn put_u24(p: &mut [u8], at: usize, v: u32)
     requires { at + 3 ≤ length p.old }
     ensures { p.new ≡ written p.old at (be 3 v) }
@@ -37,6 +39,7 @@ pub fn put_u24(p: &mut [u8], at: usize, v: u32)
     p[at..at + 3].copy_from_slice(&octets[1..]);
 }
 
+#[tactic(auto, unfolding(crate::specs::Written::written))]
 pub fn put_u32(p: &mut [u8], at: usize, v: u32)
     requires { at + 4 ≤ length p.old }
     ensures { p.new ≡ written p.old at (be 4 v) }
@@ -45,6 +48,7 @@ pub fn put_u32(p: &mut [u8], at: usize, v: u32)
 }
 
 // The first n octets become 0.
+#[tactic(auto, unfolding(crate::specs::Packet::zeros, crate::specs::Written::written))]
 pub fn clear(p: &mut [u8], n: usize)
     requires { n ≤ length p.old }
     ensures { p.new ≡ written p.old 0 (zeros n) }

@@ -29,6 +29,7 @@ pub struct SeqTracker {
 }
 
 // Number 0, where it is not the expected one, begins a new stream.
+#[tactic(auto, unfolding(crate::specs::Tracker::zero_restarts))]
 fn zero_restarts(seq: u32) -> bool
     ensures { result ≡ zero_restarts seq }
 {
@@ -69,6 +70,7 @@ impl SeqTracker {
     }
 
     // seq is accepted as the latest datagram.
+    #[tactic(auto, unfolding(crate::specs::Tracker::after))]
     fn rebaseline(&mut self, seq: u32)
         ensures { self.new ≡ past seq }
     {

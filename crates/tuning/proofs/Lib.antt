@@ -1,6 +1,5 @@
 -- The laws of `tuning`: a file imports only what stands above it here.
 pub mod Answers
-pub mod Boards
 pub mod Rungs
 pub mod Phases
 pub mod Centres

@@ -131,6 +131,7 @@ pub struct AlexWords {
 }
 
 // Whether f stands on the rung of this limit. A NaN stands on none.
+#[tactic(auto, unfolding(crate::specs::Alex::on_rung))]
 fn on_rung(falling: bool, f: f64, limit: f64) -> bool
     ensures { result ≡ on_rung falling f limit }
 {
@@ -142,6 +143,7 @@ fn on_rung(falling: bool, f: f64, limit: f64) -> bool
 
 impl Ladder {
     // The place of the first rung that f stands on, 6 where there is none.
+    #[tactic(auto, unfolding(base::specs::Pick::pick, base::specs::Search::first))]
     fn rung(self, f: f64) -> usize
         ensures { result ≡ first (on_rung self.falling f) self.limits }
     {

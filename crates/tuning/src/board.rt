@@ -34,6 +34,7 @@ fn info(id: Option<u8>, adcs: u8, enable: u8, scheme: FilterScheme) -> BoardInfo
 }
 
 // A board number that is not known goes as one that was not asked for.
+#[tactic(auto, unfolding(base::specs::Pick::pick, crate::specs::Board::board_info))]
 pub fn board_info(id: Option<u8>) -> BoardInfo
     ensures { result ≡ board_info id }
 {

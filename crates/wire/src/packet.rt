@@ -66,6 +66,7 @@ pub enum PacketError {
 }
 
 // Every command starts with its count; the octets that it does not name are 0.
+#[tactic(auto, unfolding(octets::specs::Packet::packet, octets::specs::Written::written))]
 fn start(p: &mut [u8], n: usize, seq: u32)
     requires { (n ≤ length p.old) × (4 ≤ n) }
     ensures { p.new ≡ written p.old 0 (packet n (field 0 4 seq ∷ [])) }

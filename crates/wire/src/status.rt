@@ -10,6 +10,7 @@ pub const ADC0_OVERLOAD: u8 = 0x01;
 pub const STATUS_ADC_OVERLOAD: usize = 5;
 
 // Bit i is ADC i's.
+#[tactic(auto, unfolding(base::specs::Pick::pick, crate::specs::Status::overload_told))]
 pub fn adc_overload_bits(buf: &[u8]) -> Option<u8>
     ensures { overload_answer result ≡ overload_told buf.now }
 {
@@ -19,6 +20,7 @@ pub fn adc_overload_bits(buf: &[u8]) -> Option<u8>
     Some(buf[STATUS_ADC_OVERLOAD])
 }
 
+#[tactic(auto, unfolding(crate::specs::Status::overloaded))]
 pub fn adc0_overload(bits: u8) -> bool
     ensures { result ≡ overloaded bits }
 {

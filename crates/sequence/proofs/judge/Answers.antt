@@ -1,6 +1,6 @@
 -- `sequence::judge` meets its contract: the tests in 01's order. Assumes nothing.
 use borrow.Author.Rules.{rules}
-use Rattle.std.proofs.Common.{◌≡◌, ℕ, ◌+◌, ◌-◌, ◌%◌, ◌^◌, ◌<◌, sym, ap, ◌∙◌, arith}
+use Rattle.std.proofs.Common.{◌≡◌, ℕ, ◌+◌, ◌-◌, ◌%◌, ◌^◌, ◌<◌, sym, ap, ◌∙◌}
 use Rattle.sequence.specs.Tracker.{less, meant}
 use Rattle.sequence.proofs.Meanings.{less-is, in_order, at_zero, gap, far, one-too-many, stale}
 use Rattle.sequence.proofs.judge.Goals as goal
