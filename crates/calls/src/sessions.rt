@@ -7,7 +7,7 @@ ghost use Rattle.desk.specs.Asked.{Asks, IsRun};
 use super::practice;
 use super::practice::Practice;
 use console::output::Output;
-use desk::desk::{Desk, Request};
+use desk::desk::{Course, Desk, Request};
 use desk::key;
 use desk::reply::Given;
 use encoding::words::KIND;
@@ -107,7 +107,7 @@ pub(crate) fn answered(h: Held, before: Account, d: &mut Desk, rooms: &Rooms, ou
             }
         }
         Request::Open(radio) => d.tell_opened(radio, h.refused, out),
-        Request::End => d.is_over = true,
+        Request::End => d.course = Course::Over,
         Request::Nothing | Request::State | Request::Radio => {}
     }
 }

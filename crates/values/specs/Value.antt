@@ -8,7 +8,8 @@ use Rattle.text.specs.Split.{parts}
 use Rattle.text.specs.Name.{ascii, same}
 use Rattle.text.specs.Number.{digits_of}
 
--- what is made of a number where one is spelt, and what else
+-- what is made of a number where one is spelt, and what else: std's `option_map_or`, with the word in front of what is made of it, as a
+-- line is read, and shut until a proof opens it
 unfoldable pub given : {A : Type 0} → Option ℕ → (ℕ → A) → A → A
 given (Some n) f z = f n
 given None f z = z

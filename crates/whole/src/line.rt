@@ -3,7 +3,7 @@ use super::run::Sitting;
 use super::tell::too_long;
 use batch::list::List;
 use console::output::Output;
-use desk::desk::{Desk, Request};
+use desk::desk::{Course, Desk, Request};
 use lines::{Asked, Expected, Read, read_call};
 
 // A call of the session in hand. There has to be one, and its settings have to be accepted.
@@ -58,7 +58,7 @@ pub(crate) fn read(
         }
         None => {
             d.asks = Request::End;
-            d.is_over = true;
+            d.course = Course::Over;
         }
     }
 }
