@@ -62,10 +62,10 @@ pub(crate) fn or_else(keys: &[Option<u64>], key: usize, other: u64) -> u64
 fn later_of(name: Name, values: &Values) -> u64
     ensures { result ≡ Call.later_of name values.now }
 {
-    if name == Name::Take {
-        return 0;
+    match name {
+        Name::Take => 0,
+        _ => values.words[key::SECOND_WORD],
     }
-    values.words[key::SECOND_WORD]
 }
 
 // The sender's address and port: those that the line says, or the radio's own of the datagram's kind.
@@ -95,10 +95,10 @@ fn count_of(name: Name, values: &Values) -> u64
 fn places_of(name: Name, values: &Values) -> u64
     ensures { result ≡ Call.places_of name values.now }
 {
-    if name == Name::Take {
-        return values.words[key::SECOND_WORD];
+    match name {
+        Name::Take => values.words[key::SECOND_WORD],
+        _ => or_else(&values.keys, BUFFER, name.buffer()),
     }
-    or_else(&values.keys, BUFFER, name.buffer())
 }
 
 fn call_of(name: Name, radio: Endpoint, values: &Values) -> [u64; 8]
