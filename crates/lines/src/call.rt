@@ -1,14 +1,14 @@
 // A line's call: its name, then what stands after it.
-ghost use Rattle.std.specs.Prelude.{◌≡◌, ◌≤◌, ◌<◌, length};
+ghost use Rattle.std.specs.Prelude.{◌≡◌, ◌<◌};
 ghost use Rattle.text.specs.Split.{words};
 ghost use Rattle.lines.specs.Call as Call;
-ghost use Rattle.lines.specs.Key.{key_count, most_octets};
+ghost use Rattle.lines.specs.Key.{key_count};
 
 use super::argument::{Kind, arguments};
 use super::key::{BUFFER, KEY_COUNT, WORD_COUNT};
 use super::name::{Name, begins};
 use super::option::options;
-use super::{Asked, Endpoint, Expected, LONGEST, Read, key};
+use super::{Asked, Endpoint, Expected, LONGEST, MOST_OCTETS, Read, key};
 use iq::IQ_DATAGRAM_LEN;
 use stream::{BITS_PER_SAMPLE, SAMPLES_PER_DATAGRAM};
 use values::datagram::{put_iq, put_status};
@@ -52,8 +52,8 @@ pub struct Values {
 }
 
 // A key's value, or what it is where it is left out.
-pub(crate) fn or_else(keys: &[Option<u64>], key: usize, other: u64) -> u64
-    requires { (key < key_count) × (key_count ≤ length keys.now) }
+pub(crate) fn or_else(keys: &[Option<u64>; KEY_COUNT], key: usize, other: u64) -> u64
+    requires { key < key_count }
     ensures { result ≡ Call.or_else keys.now key other }
 {
     keys[key].unwrap_or(other)
@@ -115,8 +115,8 @@ fn call_of(name: Name, radio: Endpoint, values: &Values) -> [u64; 8]
 }
 
 // The datagram of an `iq` or a `status` line; that of `datagram` is there.
-fn put_datagram(name: Name, values: &Values, octets: &mut [u8])
-    requires { (most_octets ≤ length octets.old) × Call.Small name values.now }
+fn put_datagram(name: Name, values: &Values, octets: &mut [u8; MOST_OCTETS])
+    requires { Call.Small name values.now }
     ensures { octets.new ≡ Call.octets_of name values.now octets.old }
 {
     match name {
