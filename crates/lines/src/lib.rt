@@ -7,6 +7,7 @@ ghost use Rattle.lines.specs.Open.{opening_of, radio_of};
 ghost use Rattle.lines.specs.Found.{found_in, first_in};
 
 use model::settings::Settings;
+pub use values::{MOST_NUMBERS, MOST_OCTETS};
 
 mod argument;
 mod call;
@@ -18,11 +19,6 @@ mod stops;
 
 // The most octets of a line: a longer one is not read.
 pub const LONGEST: usize = 100000;
-
-// The most octets of a datagram, and the most numbers that wait: 8192, and one that is too many (01's refusal 14).
-pub const MOST_OCTETS: usize = 2048;
-
-pub const MOST_NUMBERS: usize = 8193;
 
 // What was expected, as CALLS.md's Errors has it. Open and FewerStretches are for whoever runs the calls.
 #[derive(Clone, Copy, Debug, PartialEq, Eq)]

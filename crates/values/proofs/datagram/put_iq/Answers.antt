@@ -2,6 +2,7 @@
 use mathlib.Core.Path.{ap, ◌∙◌}
 use mathlib.Core.List.{[], ◌∷◌}
 use native.Mathlib.Omega.{arith}
+use borrow.Author.Rules.{rules}
 use Rattle.octets.specs.Packet.{field, stored}
 use Rattle.octets.proofs.Packets.{packet-front}
 use Rattle.values.specs.Datagram.{header}
@@ -14,15 +15,12 @@ put_u16-requires-2 c = omega arith
 pub put_pairs-requires : goal.put_pairs-requires
 put_pairs-requires c = omega arith
 
-pub shape_of-p : goal.shape_of-p
-shape_of-p c = omega arith
-
 pub returns : goal.returns
 returns c =
     let a = c.args in
     let samples = field 14 2 a.samples ∷ [] in
     let bits = field 12 2 a.bits ∷ samples in
-    in-front _ _ _ _ _ _ c.requires
+    in-front _ _ _ _ _ _ (search rules)
     (c.put_u16-2.ensures
     ∙ ap (stored samples) c.put_u16.ensures
     ∙ ap (stored bits) c.put_u32.ensures
