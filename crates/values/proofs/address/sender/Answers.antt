@@ -1,7 +1,6 @@
 -- `values::address::sender` parts the word at its colon. Assumes nothing.
 use Prim.Native.Nat.{◌+◌}
 use mathlib.Core.Path.{◌≡◌, sym, ap, ◌∙◌}
-use lib.Seq.{length-take-le}
 use native.Mathlib.Omega.{arith}
 use Rattle.std.specs.Prelude.{None}
 use Rattle.text.proofs.Splits.{to_the_end}
@@ -13,9 +12,6 @@ use Rattle.values.proofs.address.sender.Goals as goal
 
 pub returns-then-colon-w : goal.returns-then-colon-w
 returns-then-colon-w c = no-colon _ _ c.find-colon.ensures.0 c.if-colon-w.true
-
-pub slice_bounds-host-end : goal.slice_bounds-host-end
-slice_bounds-host-end c = sym (length-take-le c.find-colon.result c.args.w.now c.find-colon.ensures.1)
 
 pub returns-in_err-a : goal.returns-in_err-a
 returns-in_err-a c =

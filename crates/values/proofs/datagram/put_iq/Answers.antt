@@ -1,19 +1,12 @@
 -- `values::datagram::put_iq` stores the header in a cleared front, then the pairs. Assumes nothing.
 use mathlib.Core.Path.{ap, ◌∙◌}
 use mathlib.Core.List.{[], ◌∷◌}
-use native.Mathlib.Omega.{arith}
 use borrow.Author.Rules.{rules}
 use Rattle.octets.specs.Packet.{field, stored}
 use Rattle.octets.proofs.Packets.{packet-front}
 use Rattle.values.specs.Datagram.{header}
 use Rattle.values.proofs.Datagrams.{in-front}
 use Rattle.values.proofs.datagram.put_iq.Goals as goal
-
-pub put_u16-requires-2 : goal.put_u16-requires-2
-put_u16-requires-2 c = omega arith
-
-pub put_pairs-requires : goal.put_pairs-requires
-put_pairs-requires c = omega arith
 
 pub returns : goal.returns
 returns c =

@@ -1,9 +1,7 @@
 -- `values::datagram::put_pairs` writes a pair a turn. Assumes nothing.
 use Prim.Native.Nat.{ℕ, ◌%◌}
-use mathlib.Core.Path.{◌≡◌, refl, ap, ◌∙◌}
+use mathlib.Core.Path.{refl, ap}
 use native.Mathlib.Omega.{arith}
-use Rattle.octets.specs.Written.{written}
-use Rattle.values.specs.Datagram.{pairs}
 use Rattle.values.proofs.Datagrams.{pairs-none, pairs-more}
 use borrow.Author.Rules.{rules}
 use Rattle.values.proofs.datagram.put_pairs.Goals as goal
@@ -13,9 +11,3 @@ loop-j-init c = (search rules, refl, pairs-none _ _, refl)
 
 pub loop-j-preserved : goal.loop-j-preserved
 loop-j-preserved c = let l = c.loop-j in (omega arith, omega arith, pairs-more _ _ _ _ _ _ _ (omega arith) (omega arith) l.invariant.2 (ap (λ (n : ℕ). n % 16777216) (omega arith)) c.put_u24.ensures c.put_u24-in-loop-j.ensures, l.invariant.3)
-
-pub returns : goal.returns
-returns c =
-    let l = c.loop-j in
-    let e : l.j ≡ 238 = omega arith in
-    l.invariant.2 ∙ ap (λ (n : ℕ). written c.args.p.now 16 (pairs c.args.number n)) e

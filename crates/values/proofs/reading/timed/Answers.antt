@@ -1,14 +1,10 @@
 -- `values::reading::timed` multiplies where the product is below 2^64. Assumes nothing.
 use mathlib.Core.Path.{◌≡◌, sym, ◌∙◌}
-use lib.Seq.{length-take-le}
 use borrow.Author.Rules.{rules}
 use Rattle.std.specs.Prelude.{None}
 use Rattle.values.specs.Value.{timed}
 use Rattle.values.proofs.Values.{then-no, then-yes, checked}
 use Rattle.values.proofs.reading.timed.Goals as goal
-
-pub slice_bounds-digits-end : goal.slice_bounds-digits-end
-slice_bounds-digits-end c = sym (length-take-le _ _ (search rules))
 
 pub returns-in_err-digits : goal.returns-in_err-digits
 unfolding timed

@@ -1,7 +1,6 @@
 -- `values::waiting::span_of` parts the word at its dash. Assumes nothing.
 use Prim.Native.Nat.{◌+◌}
 use mathlib.Core.Path.{◌≡◌, sym, ap, ◌∙◌}
-use lib.Seq.{length-take-le}
 use native.Mathlib.Omega.{arith}
 use Rattle.std.specs.Prelude.{None}
 use Rattle.text.proofs.Splits.{to_the_end}
@@ -18,9 +17,6 @@ returns-in_err-n c =
 
 pub returns-then-dash-p : goal.returns-then-dash-p
 returns-then-dash-p c = one _ _ c.find-dash.ensures.0 c.if-dash-p.true _ (sym c.number.ensures ∙ c.in_ok-n.was)
-
-pub slice_bounds-number-end : goal.slice_bounds-number-end
-slice_bounds-number-end c = sym (length-take-le c.find-dash.result c.args.p.now c.find-dash.ensures.1)
 
 pub returns-in_err-a : goal.returns-in_err-a
 returns-in_err-a c =
