@@ -3,9 +3,9 @@ use super::list::List;
 use super::replies::{Answers, behind, eight_at};
 use console::output::Output;
 use desk::key::put_rows;
-use encoding::lent::MOST_OCTETS;
 use encoding::words::{taken_by, words_at};
 use marking::note::note;
+use stream::MOST_OCTETS;
 use tally::account::{Account, TABLE, none};
 use tally::rows::End;
 

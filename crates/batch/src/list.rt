@@ -38,10 +38,9 @@ fn append<T: Copy>(to: &mut [T], at: usize, from: &[T], n: usize) -> Result<usiz
     requires { at ≤ length to.old }
     ensures { IfOk result (λ end. (end ≡ at + n) × (end ≤ length to.new)) }
 {
-    if n > from.len() || n > to.len() - at {
-        return Err(NoRoom);
-    }
-    to[at..at + n].copy_from_slice(&from[..n]);
+    let front = from.get(..n).ok_or(NoRoom)?;
+    let room = to[at..].get_mut(..n).ok_or(NoRoom)?;
+    room.copy_from_slice(front);
     Ok(at + n)
 }
 

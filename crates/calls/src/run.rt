@@ -4,7 +4,7 @@ ghost use Rattle.holding.specs.Held.{Holds};
 use super::practice::{listened, untold};
 use super::sessions::{Rooms, account_of, after, answered, radio_of, told};
 use console::output::Output;
-use desk::desk::{Desk, Flags};
+use desk::desk::{Course, Desk, Flags};
 use std::io::Read;
 use telling::error;
 
@@ -44,13 +44,10 @@ fn run_lines<R: Read>(
             answered(came, before, d, rooms, out);
         },
     );
-    if !is_whole {
-        return Status::Failed;
-    }
-    if d.is_wrong {
-        Status::Wrong
-    } else {
-        Status::Fine
+    match d.course {
+        _ if !is_whole => Status::Failed,
+        Course::Wrong => Status::Wrong,
+        Course::On | Course::Over => Status::Fine,
     }
 }
 

@@ -10,7 +10,7 @@ ghost use Rattle.calls.specs.Came.{came_ran};
 use super::practice;
 use super::practice::Practice;
 use console::output::Output;
-use desk::desk::{Desk, Request};
+use desk::desk::{Course, Desk, Request};
 use desk::key;
 use encoding::lent::{Asked, Given};
 use encoding::words::KIND;
@@ -186,6 +186,7 @@ pub(crate) fn answered(came: Came, before: Account, d: &mut Desk, rooms: &Rooms,
             }
         }
         Came::Opened(answer) => d.tell_opened(answer, out),
-        Came::Nothing => d.is_over |= d.asks == Request::End,
+        Came::Nothing if d.asks == Request::End => d.course = Course::Over,
+        Came::Nothing => {}
     }
 }

@@ -1,5 +1,5 @@
 // What the program holds between two lines, beside the session and the input.
-ghost use Rattle.std.specs.Prelude.{◌≡◌, true, false};
+ghost use Rattle.std.specs.Prelude.{◌≡◌, true};
 
 use console::input::Input;
 use console::output::Output;
@@ -30,15 +30,22 @@ pub struct Flags {
     pub status: bool,
 }
 
+// Whether a list goes on.
+#[derive(Clone, Copy, Debug, PartialEq, Eq)]
+pub enum Course {
+    On,
+    // there are no more lines, or there is no room for what they ask for
+    Over,
+    // a line could not be read, or not be run
+    Wrong,
+}
+
 #[derive(Clone, Copy)]
 pub struct Desk {
     // the line's number, and what it asks for
     pub line: u64,
     pub asks: Request,
-    // there are no more lines, or one could not be read
-    pub is_over: bool,
-    // one could not be read
-    pub is_wrong: bool,
+    pub course: Course,
     pub flags: Flags,
 }
 
@@ -47,8 +54,7 @@ impl Desk {
         Desk {
             line: 0,
             asks: Request::Nothing,
-            is_over: false,
-            is_wrong: false,
+            course: Course::On,
             flags,
         }
     }
@@ -59,15 +65,14 @@ impl Desk {
     {
         error::tell(out, self.line, e, line, STRETCHES + 1);
         self.asks = Request::Nothing;
-        self.is_over = true;
-        self.is_wrong = true;
+        self.course = Course::Wrong;
     }
 
     // Whether the list goes on.
     pub fn goes_on(&self, input: &Input, out: &Output) -> bool
-        ensures { result ≡ true → self.now.is_over ≡ false }
+        ensures { result ≡ true → self.now.course ≡ Course.On }
     {
-        !self.is_over && input.fault().is_none() && !out.has_failed()
+        self.course == Course::On && input.fault().is_none() && !out.has_failed()
     }
 
     // The line's number, before an answer, where it is asked for.

@@ -2,11 +2,7 @@
 ghost use Rattle.std.specs.Prelude.{◌≡◌, replicate};
 
 use super::words::Words;
-
-// The most octets of a datagram, and the most numbers that wait: 8192, and one that is too many (01's refusal 14).
-pub const MOST_OCTETS: usize = 2048;
-
-pub const MOST_NUMBERS: usize = 8193;
+use stream::{MOST_NUMBERS, MOST_OCTETS};
 
 // A list of calls: eight numbers each, and their datagrams and waiting numbers, one behind the other.
 #[derive(Clone, Copy)]

@@ -5,7 +5,7 @@ use Prim.Native.Nat.{ℕ, suc, ◌+◌, ◌-◌, ◌≤◌, ◌<◌}
 use native.Mathlib.Nat.{sub-zero}
 use native.Mathlib.Numerals.{add-one}
 use native.Mathlib.Omega.{arith}
-use lib.ListN.{length, drop, get_or, set, length-set, drop_of_length-le}
+use lib.ListN.{length, drop, get_or, set, drop_of_length-le}
 use lib.Seq.{drop-cons}
 use Rattle.octets.specs.Written.{written}
 use Rattle.text.specs.Split.{words, FirstWord}
@@ -33,8 +33,6 @@ seen-whole Octets w d v e = ap (written d 0) (seen-octets w v (up-to-number most
 -- the first j words of the form are read, and have left m and n
 pub record Filling (ts : List Kind) (s l d left : List ℕ) (j : ℕ) (m n : List ℕ) : Type 0 where
   pub most : j ≤ length ts
-  pub as_long : length m ≡ length l
-  pub as_many : length n ≡ length d
   pub told : unread (drop j ts) (words left) ≡ unread ts (words s)
   pub values : argument_values j (drop j ts) (words left) m ≡ argument_values 0 ts (words s) l
   pub octets : argument_octets (drop j ts) (words left) n ≡ argument_octets ts (words s) d
@@ -46,8 +44,6 @@ pub filling : (ts : List Kind) (s l d : List ℕ) → Filling ts s l d s 0 l d
 filling ts s l d =
     record {
       most = omega arith;
-      as_long = refl;
-      as_many = refl;
       told = refl;
       values = refl;
       octets = refl;
@@ -119,16 +115,14 @@ module _ (ts : List Kind) (s l d left : List ℕ) (j : ℕ) (m n : List ℕ) (i 
           unread-here m p (sym (given-no _ _ _ r) ∙ told-next) (f.reads ∙ sym (given-no _ _ _ r) ∙ rest-next)
           (q ∙ sym (given-no _ _ _ r) ∙ seen_next)
 
-      pub read-on : (v : ℕ) (p : List ℕ) → argument t word ≡ Some v → p ≡ octets_seen_as t word n → length p ≡ length n → Filling ts s l d rest (j + 1) (set m j v) p
+      pub read-on : (v : ℕ) (p : List ℕ) → argument t word ≡ Some v → p ≡ octets_seen_as t word n → Filling ts s l d rest (j + 1) (set m j v) p
       unfolding unread argument_values argument_octets arguments_seen arguments_rest
-      read-on v p r q y =
+      read-on v p r q =
           let o = f.reads in
           let up : drop (j + 1) ts ≡ drop (suc j) ts = ap (λ (f : ℕ). drop f ts) (add-one j) in
           let g : length ts - j ≡ suc (length ts - (j + 1)) = omega arith in
           record {
             most = omega arith;
-            as_long = length-set m j v ∙ i.as_long;
-            as_many = y ∙ i.as_many;
             told = ap (λ (f : List Kind). unread f (words rest)) up ∙ sym (given_yes _ _ _ v r) ∙ told-next;
             values =
                 ap (λ (c : List Kind). argument_values (j + 1) c (words rest) (set m j v)) up

@@ -136,8 +136,6 @@ was-taken (Err x) e = cc
 
 -- the words before what is left were taken, and have left m and n
 pub record Running (from to : ℕ) (s : List ℕ) (l : List (Option ℕ)) (d left : List ℕ) (m : List (Option ℕ)) (n : List ℕ) : Type 0 where
-  pub as_long : length m ≡ length l
-  pub as_many : length n ≡ length d
   pub told : options_took from to m (words left) ≡ options_took from to l (words s)
   pub values : options_values m (words left) ≡ options_values l (words s)
   pub numbers : options_numbers n (words left) ≡ options_numbers d (words s)
@@ -145,7 +143,7 @@ pub record Running (from to : ℕ) (s : List ℕ) (l : List (Option ℕ)) (d lef
   pub rest : options_rest from to m (words left) ≡ options_rest from to l (words s)
 
 pub running : (from to : ℕ) (s : List ℕ) (l : List (Option ℕ)) (d : List ℕ) → Running from to s l d s l d
-running from to s l d = record { as_long = refl; as_many = refl; told = refl; values = refl; numbers = refl; seen = refl; rest = refl }
+running from to s l d = record { told = refl; values = refl; numbers = refl; seen = refl; rest = refl }
 
 module _ (from to : ℕ) (s : List ℕ) (l : List (Option ℕ)) (d left : List ℕ) (m : List (Option ℕ)) (n : List ℕ) (i : Running from to s l d left m n) where
   pub no_more : words left ≡ [] → Ran from to l d (words s) Taken m n
@@ -200,12 +198,10 @@ module _ (from to : ℕ) (s : List ℕ) (l : List (Option ℕ)) (d left : List �
             seen = rw q at seen_here;
           }
 
-    pub goes_on : r ≡ Taken → length o ≡ length m → length p ≡ length n → Running from to s l d rest o p
+    pub goes_on : r ≡ Taken → Running from to s l d rest o p
     unfolding and_then options_values options_numbers stopped
-    goes_on q x y =
+    goes_on q =
         record {
-          as_long = x ∙ i.as_long;
-          as_many = y ∙ i.as_many;
           told = ap (λ (v : List (Option ℕ)). options_took from to v (words rest)) (t.values q) ∙ (rw q at told_here);
           values =
               ap (λ (v : List (Option ℕ)). options_values v (words rest)) (t.values q)

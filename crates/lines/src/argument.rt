@@ -1,12 +1,12 @@
 // The words that stand after a call's name, into a lent list of values.
-ghost use Rattle.std.specs.Prelude.{◌≡◌, ◌≤◌, length};
+ghost use Rattle.std.specs.Prelude.{◌≡◌};
 ghost use Rattle.text.specs.Split.{words};
 ghost use Rattle.lines.specs.Argument as Argument;
-ghost use Rattle.lines.specs.Key.{word_count, most_octets};
 ghost use Rattle.lines.specs.Name.{form};
 
+use super::key::WORD_COUNT;
 use super::name::Name;
-use encoding::lent::MOST_OCTETS;
+use stream::MOST_OCTETS;
 use values::address::sender;
 use values::hexadecimal::octets;
 use values::reading::{reading, up_to};
@@ -38,8 +38,7 @@ impl Kind {
     }
 }
 
-fn argument_as(kind: Kind, w: &[u8], room: &mut [u8]) -> Option<u64>
-    requires { most_octets ≤ length room.old }
+fn argument_as(kind: Kind, w: &[u8], room: &mut [u8; MOST_OCTETS]) -> Option<u64>
     ensures { (result ≡ Argument.argument_as kind w.now) ×
         (room.new ≡ Argument.octets_seen_as kind w.now room.old) }
 {
@@ -51,8 +50,7 @@ fn argument_as(kind: Kind, w: &[u8], room: &mut [u8]) -> Option<u64>
     }
 }
 
-fn argument(kind: Kind, w: &[u8], room: &mut [u8]) -> Option<u64>
-    requires { most_octets ≤ length room.old }
+fn argument(kind: Kind, w: &[u8], room: &mut [u8; MOST_OCTETS]) -> Option<u64>
     ensures { (result ≡ Argument.argument kind w.now) ×
         (room.new ≡ Argument.octets_seen_as kind w.now room.old) }
 {
@@ -71,10 +69,9 @@ pub(crate) struct Words<'a> {
 pub(crate) fn arguments<'a>(
     s: &'a [u8],
     name: Name,
-    values: &mut [u64],
-    room: &mut [u8],
+    values: &mut [u64; WORD_COUNT],
+    room: &mut [u8; MOST_OCTETS],
 ) -> Words<'a>
-    requires { (word_count ≤ length values.old) × (most_octets ≤ length room.old) }
     ensures { Argument.Arguments (form name).words values.old room.old
         (words s.now) result.unread result.left.now values.new room.new }
 {

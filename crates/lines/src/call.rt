@@ -1,8 +1,8 @@
 // A line's call: its name, then what stands after it.
-ghost use Rattle.std.specs.Prelude.{◌≡◌, ◌≤◌, ◌<◌, length};
+ghost use Rattle.std.specs.Prelude.{◌≡◌, ◌<◌};
 ghost use Rattle.text.specs.Split.{words};
 ghost use Rattle.lines.specs.Call as Call;
-ghost use Rattle.lines.specs.Key.{key_count, most_octets};
+ghost use Rattle.lines.specs.Key.{key_count};
 
 use super::argument::{Kind, arguments};
 use super::key::{BUFFER, KEY_COUNT, WORD_COUNT};
@@ -11,7 +11,7 @@ use super::option::options;
 use super::{Endpoint, Expected, LONGEST, Read, key};
 use encoding::lent::Asked;
 use iq::IQ_DATAGRAM_LEN;
-use stream::{BITS_PER_SAMPLE, SAMPLES_PER_DATAGRAM};
+use stream::{BITS_PER_SAMPLE, MOST_OCTETS, SAMPLES_PER_DATAGRAM};
 use values::datagram::{put_iq, put_status};
 use wire::status::STATUS_LEN;
 
@@ -53,8 +53,8 @@ pub struct Values {
 }
 
 // A key's value, or what it is where it is left out.
-pub(crate) fn or_else(keys: &[Option<u64>], key: usize, other: u64) -> u64
-    requires { (key < key_count) × (key_count ≤ length keys.now) }
+pub(crate) fn or_else(keys: &[Option<u64>; KEY_COUNT], key: usize, other: u64) -> u64
+    requires { key < key_count }
     ensures { result ≡ Call.or_else keys.now key other }
 {
     keys[key].unwrap_or(other)
@@ -63,10 +63,10 @@ pub(crate) fn or_else(keys: &[Option<u64>], key: usize, other: u64) -> u64
 fn later_of(name: Name, values: &Values) -> u64
     ensures { result ≡ Call.later_of name values.now }
 {
-    if name == Name::Take {
-        return 0;
+    match name {
+        Name::Take => 0,
+        _ => values.words[key::SECOND_WORD],
     }
-    values.words[key::SECOND_WORD]
 }
 
 // The sender's address and port: those that the line says, or the radio's own of the datagram's kind.
@@ -96,10 +96,10 @@ fn count_of(name: Name, values: &Values) -> u64
 fn places_of(name: Name, values: &Values) -> u64
     ensures { result ≡ Call.places_of name values.now }
 {
-    if name == Name::Take {
-        return values.words[key::SECOND_WORD];
+    match name {
+        Name::Take => values.words[key::SECOND_WORD],
+        _ => or_else(&values.keys, BUFFER, name.buffer()),
     }
-    or_else(&values.keys, BUFFER, name.buffer())
 }
 
 fn call_of(name: Name, radio: Endpoint, values: &Values) -> [u64; 8]
@@ -116,8 +116,8 @@ fn call_of(name: Name, radio: Endpoint, values: &Values) -> [u64; 8]
 }
 
 // The datagram of an `iq` or a `status` line; that of `datagram` is there.
-fn put_datagram(name: Name, values: &Values, octets: &mut [u8])
-    requires { (most_octets ≤ length octets.old) × Call.Small name values.now }
+fn put_datagram(name: Name, values: &Values, octets: &mut [u8; MOST_OCTETS])
+    requires { Call.Small name values.now }
     ensures { octets.new ≡ Call.octets_of name values.now octets.old }
 {
     match name {

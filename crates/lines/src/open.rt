@@ -1,5 +1,5 @@
 // `open` and its settings.
-ghost use Rattle.std.specs.Prelude.{◌≡◌, ◌≤◌, ◌<◌, length};
+ghost use Rattle.std.specs.Prelude.{◌≡◌, ◌<◌};
 ghost use Rattle.std.specs.Float.{binary64};
 ghost use Rattle.std.specs.Float.Ieee.{of_bits};
 ghost use Rattle.text.specs.Split.{words};
@@ -12,8 +12,8 @@ use super::key::{KEY_COUNT, SETTINGS};
 use super::name::{Name, begins};
 use super::option::options;
 use super::{Expected, LONGEST, Opening, key};
-use encoding::lent::MOST_NUMBERS;
 use model::settings::{AttenuationChoice, Settings};
+use stream::MOST_NUMBERS;
 use tuning::board::{BoardInfo, board_info};
 
 // Where they are left out: 48000 and 7000000 as doubles, and 10.0.0.2.
@@ -51,15 +51,15 @@ fn choice_of(place: Option<u64>) -> AttenuationChoice
     }
 }
 
-fn double_or(keys: &[Option<u64>], key: usize, other: u64) -> f64
-    requires { (key < key_count) × (key_count ≤ length keys.now) }
+fn double_or(keys: &[Option<u64>; KEY_COUNT], key: usize, other: u64) -> f64
+    requires { key < key_count }
     ensures { result ≡ Open.double_or keys.now key other }
 {
     double_of(or_else(keys, key, other))
 }
 
-fn settings_of(keys: &[Option<u64>]) -> Settings
-    requires { (key_count ≤ length keys.now) × Open.Within keys.now }
+fn settings_of(keys: &[Option<u64>; KEY_COUNT]) -> Settings
+    requires { Open.Within keys.now }
     ensures { result ≡ Open.settings_of keys.now }
 {
     let ddc_count = or_else(keys, key::RECEIVERS, 1) as usize;

@@ -1,12 +1,12 @@
 // Options, key=value, each at most once, into a lent list of the keys' values.
-ghost use Rattle.std.specs.Prelude.{◌≡◌, ◌≤◌, ◌<◌, length};
+ghost use Rattle.std.specs.Prelude.{◌≡◌, ◌≤◌, ◌<◌};
 ghost use Rattle.text.specs.Split.{words};
 ghost use Rattle.lines.specs.Option as Option;
-ghost use Rattle.lines.specs.Key.{key_count, most_numbers};
+ghost use Rattle.lines.specs.Key.{key_count};
 
 use super::Expected;
 use super::key::{KEY_COUNT, KEYS};
-use encoding::lent::{MOST_NUMBERS, MOST_OCTETS};
+use stream::{MOST_NUMBERS, MOST_OCTETS};
 use values::address::ipv4;
 use values::reading::{double, number, reading, up_to};
 use values::waiting::waiting;
@@ -86,8 +86,7 @@ fn attenuation(w: &[u8]) -> Option<u64>
     Some(text::place_of(w, &CHOICES)? as u64)
 }
 
-fn spelt_as(how: Spelling, w: &[u8], numbers: &mut [u32]) -> Option<u64>
-    requires { most_numbers ≤ length numbers.old }
+fn spelt_as(how: Spelling, w: &[u8], numbers: &mut [u32; MOST_NUMBERS]) -> Option<u64>
     ensures { (result ≡ Option.spelt_as how w.now) ×
         (numbers.new ≡ Option.numbers_seen_as how w.now numbers.old) }
 {
@@ -102,8 +101,8 @@ fn spelt_as(how: Spelling, w: &[u8], numbers: &mut [u32]) -> Option<u64>
     }
 }
 
-fn value(key: usize, w: &[u8], numbers: &mut [u32]) -> Option<u64>
-    requires { (key < key_count) × (most_numbers ≤ length numbers.old) }
+fn value(key: usize, w: &[u8], numbers: &mut [u32; MOST_NUMBERS]) -> Option<u64>
+    requires { key < key_count }
     ensures { (result ≡ Option.value_of key w.now) ×
         (numbers.new ≡ Option.numbers_seen_for key w.now numbers.old) }
 {
@@ -115,10 +114,10 @@ fn take_option(
     w: &[u8],
     from: usize,
     to: usize,
-    values: &mut [Option<u64>],
-    numbers: &mut [u32],
+    values: &mut [Option<u64>; KEY_COUNT],
+    numbers: &mut [u32; MOST_NUMBERS],
 ) -> Result<(), Untaken>
-    requires { (to ≤ key_count) × (key_count ≤ length values.old) × (most_numbers ≤ length numbers.old) }
+    requires { to ≤ key_count }
     ensures { Option.Stepped from to values.old numbers.old w.now result values.new
         numbers.new }
 {
@@ -154,10 +153,10 @@ pub(crate) fn options<'a>(
     s: &'a [u8],
     from: usize,
     to: usize,
-    values: &mut [Option<u64>],
-    numbers: &mut [u32],
+    values: &mut [Option<u64>; KEY_COUNT],
+    numbers: &mut [u32; MOST_NUMBERS],
 ) -> Run<'a>
-    requires { (to ≤ key_count) × (key_count ≤ length values.old) × (most_numbers ≤ length numbers.old) }
+    requires { to ≤ key_count }
     ensures { Option.Ran from to values.old numbers.old (words s.now) result.took values.new numbers.new ×
         (words result.left.now ≡ Option.options_rest from to values.old (words s.now)) }
 {

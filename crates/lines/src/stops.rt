@@ -7,7 +7,7 @@ use super::argument::arguments;
 use super::key::{BUFFER, KEY_COUNT, SETTINGS, WORD_COUNT};
 use super::name::{Name, begins};
 use super::option::options;
-use encoding::lent::{MOST_NUMBERS, MOST_OCTETS};
+use stream::{MOST_NUMBERS, MOST_OCTETS};
 use text::split_word;
 
 // What is left of the words behind a name, from the one on that can't be read.

@@ -22,6 +22,11 @@ const PER_DATAGRAM: f64 = 238.0;
 // The datagrams that a socket buffer can hold at most, and so the most numbers that may wait.
 pub const MAX_BUFFERED_DATAGRAMS: u64 = 8192;
 
+// What a call is lent at most: the octets of a datagram, and numbers that wait, with one that is too many (01's refusal 14).
+pub const MOST_OCTETS: usize = 2048;
+
+pub const MOST_NUMBERS: usize = MAX_BUFFERED_DATAGRAMS as usize + 1;
+
 // The most datagrams that can have been lost in ns nanoseconds: what the radio sent, with 1% for clock skew, and one
 // socket buffer. The Rust's `plausible_lost_datagrams`.
 pub fn jump_limit(ns: u64, rate: f64) -> u64

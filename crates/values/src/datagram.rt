@@ -3,7 +3,7 @@ ghost use Rattle.std.specs.Prelude.{◌≡◌, ◌≤◌, length};
 ghost use Rattle.octets.specs.Written.{written};
 ghost use Rattle.values.specs.Datagram.{pairs, iq_octets, status_octets};
 
-use stream::SAMPLES_PER_DATAGRAM;
+use stream::{MOST_OCTETS, SAMPLES_PER_DATAGRAM};
 
 fn put_pairs(p: &mut [u8], number: u32)
     requires { 1444 ≤ length p.old }
@@ -19,11 +19,10 @@ fn put_pairs(p: &mut [u8], number: u32)
 }
 
 // An I/Q datagram made from its number, and 0 up to 2048 octets.
-pub fn put_iq(p: &mut [u8], number: u32, bits: u16, samples: u16)
-    requires { 2048 ≤ length p.old }
+pub fn put_iq(p: &mut [u8; MOST_OCTETS], number: u32, bits: u16, samples: u16)
     ensures { p.new ≡ written p.old 0 (iq_octets number bits samples) }
 {
-    octets::clear(p, 2048);
+    octets::clear(p, MOST_OCTETS);
     octets::put_u32(p, 0, number);
     octets::put_u16(p, 12, bits);
     octets::put_u16(p, 14, samples);
@@ -31,8 +30,7 @@ pub fn put_iq(p: &mut [u8], number: u32, bits: u16, samples: u16)
 }
 
 // A status packet, all 0 but octet 5.
-pub fn put_status(p: &mut [u8], octet: u8)
-    requires { 60 ≤ length p.old }
+pub fn put_status(p: &mut [u8; MOST_OCTETS], octet: u8)
     ensures { p.new ≡ written p.old 0 (status_octets octet) }
 {
     octets::clear(p, 60);

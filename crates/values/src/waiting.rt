@@ -4,6 +4,7 @@ ghost use Rattle.octets.specs.Written.{written};
 ghost use Rattle.values.specs.Waiting.{from, span_of, waiting_count, waiting_seen};
 
 use super::reading::number;
+use stream::MOST_NUMBERS;
 
 // The first of numbers that follow each other, and how many.
 fn span_of(p: &[u8]) -> Option<(u64, u64)>
@@ -34,15 +35,14 @@ fn fill(numbers: &mut [u32], at: usize, first: u64, k: u64)
 }
 
 // With commas between: how many. A word that can't be read leaves what was written before its reading stopped.
-pub fn waiting(w: &[u8], numbers: &mut [u32]) -> Option<u64>
-    requires { 8193 ≤ length numbers.old }
+pub fn waiting(w: &[u8], numbers: &mut [u32; MOST_NUMBERS]) -> Option<u64>
     ensures { (result ≡ waiting_count w.now) ×
         (numbers.new ≡ written numbers.old 0 (waiting_seen w.now)) }
 {
     let mut n: u64 = 0;
     for part in w.split(|x| *x == b',') {
         let (first, k) = span_of(part)?;
-        if n + k > 8193 {
+        if n + k > MOST_NUMBERS as u64 {
             return None;
         }
         fill(&mut *numbers, n as usize, first, k);

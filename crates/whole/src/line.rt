@@ -3,7 +3,7 @@ use super::run::Sitting;
 use super::tell::too_long;
 use batch::list::List;
 use console::output::Output;
-use desk::desk::{Desk, Request};
+use desk::desk::{Course, Desk, Request};
 use encoding::lent::Asked;
 use lines::{Expected, Read, read_call};
 
@@ -60,7 +60,7 @@ pub(crate) fn read(
         }
         None => {
             d.asks = Request::End;
-            d.is_over = true;
+            d.course = Course::Over;
         }
     }
 }

@@ -5,7 +5,7 @@ use batch::list::List;
 use batch::replies::Answers;
 use batch::{accounts, replies};
 use console::output::Output;
-use desk::desk::{Desk, Request};
+use desk::desk::{Course, Desk, Request};
 
 // A session that is longer than the rooms, told by the line of its `open`. Nothing more is read or run.
 pub(crate) fn too_long(d: &mut Desk, sitting: Sitting, out: &mut Output) {
@@ -14,7 +14,7 @@ pub(crate) fn too_long(d: &mut Desk, sitting: Sitting, out: &mut Output) {
         &[sitting.line],
     );
     d.asks = Request::Nothing;
-    d.is_over = true;
+    d.course = Course::Over;
 }
 
 fn put_tuned(out: &mut Output, t: Tuning) {

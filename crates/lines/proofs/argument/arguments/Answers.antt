@@ -21,7 +21,7 @@ returns-in_default-argument c =
 pub loop-j-preserved : goal.loop-j-preserved
 loop-j-preserved c =
     let f = c.words-kind-items.ensures in
-    read-on _ _ _ _ _ _ _ _ c.loop-j.invariant (omega (arith, ap length f, c.loop-j-test.true)) _ (ap (λ (x : List Kind). get_or x c.loop-j.j Reading) f) _ _ c.in-Some.ensures _ _ (sym c.argument.ensures.0 ∙ c.in-Some-argument.is) c.argument.ensures.1 c.argument.auto.room
+    read-on _ _ _ _ _ _ _ _ c.loop-j.invariant (omega (arith, ap length f, c.loop-j-test.true)) _ (ap (λ (x : List Kind). get_or x c.loop-j.j Reading) f) _ _ c.in-Some.ensures _ _ (sym c.argument.ensures.0 ∙ c.in-Some-argument.is) c.argument.ensures.1
 
 pub returns : goal.returns
 returns c = filled _ _ _ _ _ _ _ _ c.loop-j.invariant (omega (arith, ap length c.words-kind-items.ensures, c.loop-j-test.false))

@@ -15,7 +15,7 @@ pub returns-in-Err : goal.returns-in-Err
 returns-in-Err c = rw c.expected.ensures (untaken _ _ _ _ _ _ _ _ c.arguments-given.ensures c.in_default.is _ c.keys_end-end.ensures _ _ _ c.options-run.ensures.0 _ c.in-Err.is)
 
 pub put_datagram-requires : goal.put_datagram-requires
-put_datagram-requires c = (search rules, small _ _ (held-words _ c.args.radio c.args.asked.now _ _ _ _ _ c.arguments-given.ensures c.in_default.is _ c.keys_end-end.ensures _ _ _ c.options-run.ensures.0 c.in_default-took.is) (held-keys _ c.args.radio c.args.asked.now _ _ _ _ _ c.arguments-given.ensures c.in_default.is _ c.keys_end-end.ensures _ _ _ c.options-run.ensures.0 c.in_default-took.is))
+put_datagram-requires c = small _ _ (held-words _ c.args.radio c.args.asked.now _ _ _ _ _ c.arguments-given.ensures c.in_default.is _ c.keys_end-end.ensures _ _ _ c.options-run.ensures.0 c.in_default-took.is) (held-keys _ c.args.radio c.args.asked.now _ _ _ _ _ c.arguments-given.ensures c.in_default.is _ c.keys_end-end.ensures _ _ _ c.options-run.ensures.0 c.in_default-took.is)
 
 pub returns-then-eq : goal.returns-then-eq
 returns-then-eq c = done _ _ _ _ _ _ _ _ c.arguments-given.ensures c.in_default.is _ c.keys_end-end.ensures _ _ _ c.options-run.ensures.0 c.in_default-took.is (sym c.asks-asks.ensures ∙ same_true the_type (search rules) _ _ (sym c.eq.ensures ∙ c.if-eq.true)) (search rules) _ _ c.call_of-asked.ensures c.put_datagram.ensures

@@ -7,7 +7,7 @@ pub returns : goal.returns
 returns c = (no_more _ _ _ _ _ _ _ _ c.loop-word.invariant c.in_default.ensures, no-rest _ _ _ _ _ _ _ _ c.loop-word.invariant c.in_default.ensures)
 
 pub loop-word-preserved : goal.loop-word-preserved
-loop-word-preserved c = goes_on _ _ _ _ _ _ _ _ c.loop-word.invariant _ _ c.in-Some.ensures _ _ _ c.take_option-took.ensures (was-taken c.take_option-took.result (sym c.is_err.ensures.value ∙ c.if-is_err.false)) c.take_option-took.auto.values c.take_option-took.auto.numbers
+loop-word-preserved c = goes_on _ _ _ _ _ _ _ _ c.loop-word.invariant _ _ c.in-Some.ensures _ _ _ c.take_option-took.ensures (was-taken c.take_option-took.result (sym c.is_err.ensures.value ∙ c.if-is_err.false))
 
 pub returns-then-is_err : goal.returns-then-is_err
 returns-then-is_err c =

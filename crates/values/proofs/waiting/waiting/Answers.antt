@@ -27,11 +27,11 @@ returns-in_err-first c =
 pub overflow_add-n : goal.overflow_add-n
 overflow_add-n c = let h = span_fits _ _ _ (sym c.span_of.ensures ∙ c.in_ok-first.was) in omega (arith, c.loop-part.invariant.most)
 
-pub returns-then-n-k-gt8193 : goal.returns-then-n-k-gt8193
-returns-then-n-k-gt8193 c =
+pub returns-then-n-k : goal.returns-then-n-k
+returns-then-n-k c =
     let e = c.into_iter-part-iterator.ensures.into_iter_gives in
     let k = part-comes _ _ c.next.new.self _ c.loop-part.yielded_by c.in-Some.part c.in-Some.ensures.steps (is 44) c.args.w.now (ap slice.split_rest e ∙ c.split-part-items.ensures.rest) (ap slice.split_done e ∙ c.split-part-items.ensures.done) (ap slice.split_callee e ∙ c.split-part-items.ensures.closure) (λ x b q k. search (rules, tests)) in
-    too_many c.args.w.now _ _ _ _ c.loop-part.invariant _ _ k.1 _ _ (sym c.span_of.ensures ∙ c.in_ok-first.was) c.if-n-k-gt8193.true
+    too_many c.args.w.now _ _ _ _ c.loop-part.invariant _ _ k.1 _ _ (sym c.span_of.ensures ∙ c.in_ok-first.was) c.if-n-k.true
 
 pub fill-requires : goal.fill-requires
 fill-requires c = let h = span_fits _ _ _ (sym c.span_of.ensures ∙ c.in_ok-first.was) in (omega (arith, c.loop-part.invariant.same_length), omega arith)
@@ -39,7 +39,7 @@ fill-requires c = let h = span_fits _ _ _ (sym c.span_of.ensures ∙ c.in_ok-fir
 pub loop-part-preserved : goal.loop-part-preserved
 loop-part-preserved c =
     subst (λ (ys : List (List ℕ)). Listed ys c.args.numbers.now c.fill.new.numbers (c.loop-part.n + c.in_ok-first.k)) (sym (map-append (λ (x : Bor (List ℕ)). x.now) c.loop-part.yielded (c.in-Some.part ∷ [])))
-    (listed_more c.args.w.now _ _ _ _ c.loop-part.invariant c.in-Some.part.now c.in_ok-first.first c.in_ok-first.k (sym c.span_of.ensures ∙ c.in_ok-first.was) c.if-n-k-gt8193.false _ c.fill.ensures c.requires c.fill.auto.numbers)
+    (listed_more c.args.w.now _ _ _ _ c.loop-part.invariant c.in-Some.part.now c.in_ok-first.first c.in_ok-first.k (sym c.span_of.ensures ∙ c.in_ok-first.was) c.if-n-k.false _ c.fill.ensures (search rules) c.fill.auto.numbers)
 
 pub returns : goal.returns
 returns c =
