@@ -33,7 +33,7 @@ get_or-set-le (x ∷ xs) (suc i) v zero b h e = h
 get_or-set-le (x ∷ xs) (suc i) v (suc k) b h e = get_or-set-le xs i v k b h (λ q. e (ap suc q))
 
 up-to-most : (m : ℕ) (x : Option ℕ) → given (up_to m x) (λ n. n) 0 ≤ m
-unfolding given pick
+unfolding pick
 up-to-most m (Some v) = held (leb v m) refl
   where
     held : (b : Bool) → leb v m ≡ b → given (pick b (Some v) None) (λ n. n) 0 ≤ m

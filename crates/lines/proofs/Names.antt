@@ -9,7 +9,6 @@ use Rattle.base.proofs.Picks.{pick-t, pick-f}
 use Rattle.std.specs.Prelude.{slice_get, Some, None}
 use Rattle.std.proofs.lemmas.Option.{slice_get_past}
 use Rattle.text.proofs.Names.{found-place, none-found}
-use Rattle.values.specs.Value.{given}
 use Rattle.lines.specs.Option.{attenuation}
 use Rattle.text.specs.Name.{ascii, named, place, found}
 use Rattle.text.specs.Split.{parts, not_empty, blank, grown, words}
@@ -45,14 +44,14 @@ pub no-key-found : (w : List ℕ) → found w keys ≡ None → key_count ≤ pl
 no-key-found w e = let l : length keys ≡ key_count = refl in omega (arith, none-found w keys e, l)
 
 pub attenuation-found : (w : List ℕ) (k : ℕ) → found w attenuations ≡ Some k → Some k ≡ attenuation w
-unfolding attenuation given
+unfolding attenuation
 attenuation-found w k e =
     let h = found-place w attenuations k e in
     let l : length attenuations ≡ 3 = refl in
     rw (sym h.0) (sym (pick-t _ _ _ (le-leb k 2 (omega (arith, h.1, l)))))
 
 pub no-attenuation : (w : List ℕ) → found w attenuations ≡ None → None ≡ attenuation w
-unfolding attenuation given
+unfolding attenuation
 no-attenuation w e =
     let l : length attenuations ≡ 3 = refl in
     sym (pick-f _ _ _ (lt-leb (place w attenuations) 2 (omega (arith, none-found w attenuations e, l))))

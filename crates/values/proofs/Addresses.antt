@@ -12,7 +12,7 @@ use Rattle.text.specs.Name.{ascii, same}
 use Rattle.text.specs.Run.{run, is, other}
 use Rattle.text.specs.Split.{parts}
 use Rattle.std.specs.Prelude.{Option, Some, None}
-use Rattle.values.specs.Value.{given, then, number, octets_after, ipv4, host, sender_at, sender}
+use Rattle.values.specs.Value.{then, number, octets_after, ipv4, host, sender_at, sender}
 use Rattle.values.proofs.Values.{then-no, then-yes, number-most}
 
 -- what a number of as many octets as are read, of four, is below
@@ -40,7 +40,7 @@ bound-fits (suc (suc (suc (suc k)))) n h = omega arith
 
 -- an address fits 32 bits
 octets-below : (k n : ℕ) (ps : List (List ℕ)) (a : ℕ) → k ≤ 4 → n < bound k → octets_after k n ps ≡ Some a → a < 4294967296
-unfolding octets_after given
+unfolding octets_after
 octets-below zero n [] a l h e = let z : n ≡ a = cc in omega arith
 octets-below zero n (p ∷ ps) a l h e = let z : ◌≡◌ {A = ℕ} 0 1 = cc in absurd (omega arith)
 octets-below (suc k) n [] a l h e = let z : ◌≡◌ {A = ℕ} 0 1 = cc in absurd (omega arith)

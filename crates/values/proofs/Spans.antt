@@ -58,7 +58,7 @@ module _ (p : List ℕ) (dash : ℕ) (e : dash ≡ run (other 45) p) where
 
 -- its numbers are below 2^32, and there is one or more
 pub span_fits : (p : List ℕ) (a k : ℕ) → span_of p ≡ span a k → (a + k ≤ 4294967296) × (0 < k)
-unfolding span_of span_at given pick
+unfolding span_of span_at pick
 span_fits p a k e = whole (ltb dash (length p)) e
   where
     dash : ℕ

@@ -17,19 +17,17 @@ use Rattle.values.specs.Value.{given, then, up_to, number}
 
 module _ {A : Type 0} (x : Option ℕ) (f : ℕ → A) (z : A) where
   pub given-no : x ≡ None → given x f z ≡ z
-  unfolding given
   given-no e = rw e
 
   pub given_yes : (n : ℕ) → x ≡ Some n → given x f z ≡ f n
-  unfolding given
   given_yes n e = rw e
 
 module _ (x : Option ℕ) (f : ℕ → Option ℕ) where
   pub then-no : x ≡ None → then x f ≡ None
-  then-no = given-no x f None
+  then-no e = rw e
 
   pub then-yes : (n : ℕ) → x ≡ Some n → then x f ≡ f n
-  then-yes = given_yes x f None
+  then-yes n e = rw e
 
 -- a product that fits 64 bits, as `checked_mul` gives it
 pub checked : (r : Option ℕ) (m : ℕ) → SomeIff r (m < 18446744073709551616) m → r ≡ pick (leb m 18446744073709551615) (Some m) None
@@ -39,7 +37,7 @@ checked (Some v) m (p, e) = rw (le-leb m 18446744073709551615 (omega arith), e)
 
 -- a number that was read is within its limit
 pub number-most : (m : ℕ) (w : List ℕ) (n : ℕ) → number m w ≡ Some n → n ≤ m
-unfolding number given pick
+unfolding number pick
 number-most m w n e = go (digits_of 10 w) e
   where
     held : (v : ℕ) (b : Bool) → leb v m ≡ b → pick b (Some v) None ≡ Some n → n ≤ m
@@ -52,7 +50,7 @@ number-most m w n e = go (digits_of 10 w) e
 
 -- what is held to a limit was spelt
 pub up-to-number : (m : ℕ) (x : Option ℕ) (n : ℕ) → up_to m x ≡ Some n → x ≡ Some n
-unfolding given pick
+unfolding pick
 up-to-number m (Some v) n e = held (leb v m) e
   where
     held : (b : Bool) → pick b (Some v) None ≡ Some n → Some v ≡ Some n

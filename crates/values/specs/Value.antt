@@ -1,5 +1,6 @@
 -- A number, a reading, a double and an IPv4 address, as a word spells each. Definitions only.
 use Rattle.std.specs.Prelude.{ℕ, zero, suc, ◌+◌, ◌-◌, ◌*◌, ◌^◌, Bool, List, [], ◌∷◌, ltb, leb, eqb, pos, length, take, drop, Option, Some, None}
+use Rattle.std.specs.Option.{option_map_or, option_and_then}
 use Rattle.std.specs.Float.{binary64}
 use Rattle.std.specs.Float.Ieee.{of_int, to_bits}
 use Rattle.base.specs.Pick.{pick}
@@ -8,14 +9,13 @@ use Rattle.text.specs.Split.{parts}
 use Rattle.text.specs.Name.{ascii, same}
 use Rattle.text.specs.Number.{digits_of}
 
--- what is made of a number where one is spelt, and what else: std's `option_map_or`, with the word in front of what is made of it, as a
--- line is read, and shut until a proof opens it
-unfoldable pub given : {A : Type 0} → Option ℕ → (ℕ → A) → A → A
-given (Some n) f z = f n
-given None f z = z
+-- what is made of a number where one is spelt, and what else; and what a number gives, where one is spelt: std's, with the number in
+-- front of what is made of it, as a line is read
+abbrev pub given : {A : Type 0} → Option ℕ → (ℕ → A) → A → A
+given x f z = option_map_or f x z
 
 abbrev pub then : Option ℕ → (ℕ → Option ℕ) → Option ℕ
-then x f = given x f None
+then x f = option_and_then f x
 
 -- at most m
 abbrev pub up_to : ℕ → Option ℕ → Option ℕ

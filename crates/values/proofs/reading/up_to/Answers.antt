@@ -3,9 +3,8 @@ use native.Mathlib.Omega.{arith}
 use Rattle.std.proofs.lemmas.Grind.{common_steps}
 use Rattle.std.proofs.lemmas.Bool.Decides.{nat_tests}
 use Rattle.base.specs.Pick.{pick}
-use Rattle.values.specs.Value.{given}
 use Rattle.values.proofs.reading.up_to.Goals as goal
 
 pub returns : goal.returns
-unfolding given pick
+unfolding pick
 returns c = grind (arith, common_steps, nat_tests)
