@@ -1,6 +1,7 @@
 // Which functions there are: groups, each with functions of one crate, or of a session's small parts. A further group is a
 // file with a table and the code that runs a row of it, and a line in each function here.
 use casebook::answer::Answer;
+use casebook::case::Given;
 use casebook::table::find;
 use part_probes::{part_cases, receiving_cases};
 use probes::{double_cases, octet_cases, packet_cases, wire_cases};
@@ -20,29 +21,17 @@ pub(crate) enum Function {
 }
 
 // The function of this name that is given so many numbers, and octets or none.
-pub(crate) fn named(name: &[u8], count: usize, has_octets: bool) -> Function {
-    if let Some(row) = find(&octet_cases::TABLE, name, count, has_octets) {
-        return Function::Octet(row);
-    }
-    if let Some(row) = find(&double_cases::TABLE, name, count, has_octets) {
-        return Function::Double(row);
-    }
-    if let Some(row) = find(&wire_cases::TABLE, name, count, has_octets) {
-        return Function::Wire(row);
-    }
-    if let Some(row) = find(&packet_cases::TABLE, name, count, has_octets) {
-        return Function::Packet(row);
-    }
-    if let Some(row) = find(&part_cases::TABLE, name, count, has_octets) {
-        return Function::Part(row);
-    }
-    if let Some(row) = find(&receiving_cases::TABLE, name, count, has_octets) {
-        return Function::Receiving(row);
-    }
-    if let Some(row) = find(&radio_cases::TABLE, name, count, has_octets) {
-        return Function::Radio(row);
-    }
-    Function::Unknown
+pub(crate) fn named(name: &[u8], given: Given) -> Function {
+    let row = |table: &[u8]| find(table, name, given.count, given.octets.is_some());
+    let found = row(&octet_cases::TABLE)
+        .map(|row| Function::Octet(row))
+        .or_else(|| row(&double_cases::TABLE).map(|row| Function::Double(row)))
+        .or_else(|| row(&wire_cases::TABLE).map(|row| Function::Wire(row)))
+        .or_else(|| row(&packet_cases::TABLE).map(|row| Function::Packet(row)))
+        .or_else(|| row(&part_cases::TABLE).map(|row| Function::Part(row)))
+        .or_else(|| row(&receiving_cases::TABLE).map(|row| Function::Receiving(row)))
+        .or_else(|| row(&radio_cases::TABLE).map(|row| Function::Radio(row)));
+    found.unwrap_or(Function::Unknown)
 }
 
 // p is the octets that the case gives.
