@@ -70,18 +70,12 @@ pub fn stalled(r: &mut Receiver)
     r.stall.report();
 }
 
-// An anchor that is set stays; an empty one becomes this reading.
-fn or_at(anchor: Option<u64>, now: u64) -> Option<u64>
-    ensures { result ≡ Begin.or_at anchor now }
-{
-    anchor.or(Some(now))
-}
-
-// A read opens: the window after a pause, the wait anchor, and the read's own copy of it.
+// A read opens: the window after a pause, the wait anchor, and the read's own copy of it. An anchor that is set stays; an empty one
+// becomes this reading.
 pub fn begun_by(r: &mut Receiver, size: u64, now: u64)
     ensures { r.new ≡ Begin.begun_by size r.old now }
 {
-    let anchor = or_at(r.reading.wait_entered, now);
+    let anchor = r.reading.wait_entered.or(Some(now));
     r.reading = Reading {
         wait_entered: anchor,
         entered: anchor,

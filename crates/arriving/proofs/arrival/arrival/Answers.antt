@@ -38,9 +38,6 @@ returns-then-packets-lt-ARRIVAL_LEN c = let a = c.args in
     (row-15 (joined a.s.now a.samples.now) (incoming_of a.i) a.packets.now
     (was c.not_reading.ensures c.if-not_reading.false) (le-ltb _ _ c.if-i-s.false) (was c.waits.ensures c.if-waits.false) c.if-i.false c.if-i-gt-MAX_BUFFERED_DATAGRAMS.false (omega (arith, c.if-packets-lt-ARRIVAL_LEN.true)))
 
-pub arrived-requires : goal.arrived-requires
-arrived-requires c = omega arith
-
 pub returns : goal.returns
 returns c = let a = c.args in
     gives_as _ _ _ _ _ _

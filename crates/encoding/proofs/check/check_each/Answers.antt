@@ -11,20 +11,11 @@ use Rattle.encoding.proofs.Fitting.{within-says}
 use Rattle.encoding.proofs.Checks.{was-call, now-taken, had-room, starts, no_call, no_room, goes_on, all-checked}
 use Rattle.encoding.proofs.check.check_each.Goals as goal
 
-pub loop-i-init : goal.loop-i-init
-loop-i-init c = let s = starts c.args.calls.now c.args.room _ _ c.nothing-taken.ensures in (s.1, s.2)
-
 pub returns-then-not-is_call : goal.returns-then-not-is_call
 returns-then-not-is_call c = let l = c.loop-i in let a = c.args in let n = length a.calls.now / 8 in let h : l.i < n = omega arith in no_call a.calls.now a.room n l.i l.taken h (was-call a.calls.now a.room n l.i l.taken h _ _ _ c.words_at-w.ensures c.is_call.ensures c.if-not-is_call.true) ∙ l.invariant.1
 
-pub has_room-requires : goal.has_room-requires
-has_room-requires c = c.loop-i.invariant.0
-
 pub returns-then-not-has_room : goal.returns-then-not-has_room
 returns-then-not-has_room c = let l = c.loop-i in let a = c.args in let n = length a.calls.now / 8 in let h : l.i < n = omega arith in no_room a.calls.now a.room n l.i l.taken h (was-call a.calls.now a.room n l.i l.taken h _ _ _ c.words_at-w.ensures c.is_call.ensures c.if-not-is_call.false) (had-room a.calls.now a.room n l.i l.taken h _ _ _ _ c.words_at-w.ensures c.taken_by-need.ensures c.has_room.ensures c.if-not-has_room.true) ∙ l.invariant.1
-
-pub plus-taken-requires : goal.plus-taken-requires
-plus-taken-requires c = within-says _ _ (was c.has_room.ensures c.if-not-has_room.false)
 
 pub loop-i-preserved : goal.loop-i-preserved
 loop-i-preserved c = let l = c.loop-i in let a = c.args in let n = length a.calls.now / 8 in let h : l.i < n = omega arith in let e = now-taken a.calls.now a.room n l.i l.taken h _ _ _ c.words_at-w.ensures c.taken_by-need.ensures c.plus-taken.ensures.sum in let f = (had-room a.calls.now a.room n l.i l.taken h _ _ _ _ c.words_at-w.ensures c.taken_by-need.ensures c.has_room.ensures c.if-not-has_room.false) in (subst (λ (t : Amounts). Within t a.room) (sym e) (within-says _ _ f), ap (check_from a.calls.now a.room (n - (l.i + 1)) (l.i + 1)) e ∙ sym (goes_on a.calls.now a.room n l.i l.taken h (was-call a.calls.now a.room n l.i l.taken h _ _ _ c.words_at-w.ensures c.is_call.ensures c.if-not-is_call.false) f) ∙ l.invariant.1)

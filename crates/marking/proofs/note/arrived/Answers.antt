@@ -3,12 +3,6 @@ use mathlib.Core.Path.{refl, sym, ◌∙◌}
 use Rattle.marking.proofs.Codes.{nothing_said, event-said}
 use Rattle.marking.proofs.note.arrived.Goals as goal
 
-pub returns-in-None : goal.returns-in-None
-returns-in-None c =
-    let a = c.args in
-    let h = nothing_said a.table.now a.a.now a.reading a.number a.code a.value (sym c.in-None.is ∙ c.said_by.ensures.says a.value) _ refl in
-    record { value = h.0; table_after = h.1 }
-
 pub returns-in-Some : goal.returns-in-Some
 returns-in-Some c =
     let a = c.args in

@@ -21,9 +21,6 @@ loop-i-preserved c = let l = c.loop-i in
       ap (λ (x : List Float). set x l.i (f l.i)) l.invariant.1 ∙ tab-more l.i f a.out.now (f l.i) nan (omega arith) refl,
     )
 
-pub shape_of-out : goal.shape_of-out
-shape_of-out c = c.loop-i.invariant.0
-
 pub returns : goal.returns
 returns c = let l = c.loop-i in
     let a = c.args in

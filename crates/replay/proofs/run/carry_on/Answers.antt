@@ -18,11 +18,6 @@ returns-in_err-check c =
     let e : c.from_residual.result ≡ Err c.in_err-check.field-0.0 = grind (arith, common_steps) in
     rw e (refused-list _ (joined a.s.now a.samples.now) l a.answers.now (sym o ∙ c.in_err-check.was) refl)
 
-pub run-requires : goal.run-requires
-run-requires c =
-    let a = c.args in
-    sym (c.check.ensures ∙ ap (λ (r : Amounts). outcome_in a.list.words.now r (length a.answers.now)) c.room_of.ensures) ∙ c.in_ok-check.was
-
 pub returns : goal.returns
 returns c =
     let a = c.args in

@@ -17,9 +17,6 @@ loop-i-init c = let a = c.args in let e = lengths (lent_with a.list a.packets.no
 pub plus-next-requires : goal.plus-next-requires
 plus-next-requires c = let a = c.args in let l = c.loop-i in let n = length a.list.words.now / 8 in let h : l.i < n = omega arith in let r = room (lent_with a.list a.packets.now a.places.now) in subst (λ (y : Amounts). Within (plus l.taken c.taken_by.result) y) (sym c.room_of-room.ensures) (subst (λ (t : Amounts). Within t r) (sym (now-taken a.list.words.now r n l.i l.taken h _ _ _ c.words_at-words.ensures c.taken_by.ensures refl)) (has_room (joined a.s.now a.samples.now) (lent_with a.list a.packets.now a.places.now) a.answers.now (length a.list.words.now / 8) l.i l.taken (joined l.s l.samples) l.answers l.packets l.places h l.invariant.3))
 
-pub overflow_mul-i : goal.overflow_mul-i
-overflow_mul-i c = omega (arith, c.loop-i-test.true, c.well_formed.1.1.0)
-
 pub turn_at-requires : goal.turn_at-requires
 turn_at-requires c = let a = c.args in let l = c.loop-i in let n = length a.list.words.now / 8 in let h : l.i < n = omega arith in let r = room (lent_with a.list a.packets.now a.places.now) in let e = lengths (lent_with a.list a.packets.now a.places.now) (length a.answers.now) c.requires in let below : Within c.plus-next.result r = subst (λ (y : Amounts). Within c.plus-next.result y) c.room_of-room.ensures c.plus-next.ensures.below in (ap is_call c.words_at-words.ensures ∙ is-call (joined a.s.now a.samples.now) (lent_with a.list a.packets.now a.places.now) a.answers.now (length a.list.words.now / 8) l.i l.taken (joined l.s l.samples) l.answers l.packets l.places h l.invariant.3, omega (arith, e.0, e.1, l.invariant.2), c.plus-next.ensures.above, below.octets, below.numbers, omega (arith, below.packets, l.invariant.0), omega (arith, below.places, l.invariant.1))
 

@@ -4,12 +4,6 @@ use Rattle.model.proofs.Room.{packet-size}
 use Rattle.sending.proofs.Progresses.{offset-small, sent-packet}
 use Rattle.sending.proofs.send.send.Goals as goal
 
-pub bounds-p-i : goal.bounds-p-i
-bounds-p-i c = omega (arith, c.offset-offset.ensures, offset-small c.args.stream)
-
-pub bounds-p-i-2 : goal.bounds-p-i-2
-bounds-p-i-2 c = omega (arith, c.offset-offset.ensures, offset-small c.args.stream)
-
 pub overflow_add-p : goal.overflow_add-p
 overflow_add-p c = let a = c.args in omega (arith, c.requires.octets, c.put_packet-length.ensures.ends, packet-size a.stream a.run a.p.now.common)
 

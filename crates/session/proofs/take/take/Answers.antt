@@ -41,10 +41,6 @@ returns-then-not-waits c =
 pub overflow_mul-s : goal.overflow_mul-s
 overflow_mul-s c = let p = (within _ (was c.waits.ensures c.if-not-waits.false)) in record { fits = omega (arith, p) }
 
-pub overflow_mul-n : goal.overflow_mul-n
-unfolding State.left
-overflow_mul-n c = record { fits = omega (arith, c.min-n.ensures, c.left.ensures) }
-
 pub returns : goal.returns
 returns c =
     let a = c.args in

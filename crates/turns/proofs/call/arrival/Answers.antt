@@ -3,9 +3,6 @@ use Rattle.turns.proofs.Arms.{arrived}
 use Rattle.turns.proofs.Dispatch.{bounds}
 use Rattle.turns.proofs.call.arrival.Goals as goal
 
-pub sender-from-requires : goal.sender-from-requires
-sender-from-requires c = let b = bounds c.args.c.words c.requires in (b.1, b.2)
-
 pub returns : goal.returns
 returns c = let a = c.args in
     let w = a.c.words in
