@@ -1,5 +1,5 @@
 -- What came of a line, and the session after it. Definitions only.
-use Rattle.std.specs.Prelude.{⊤, ◌≡◌, Bool, Result, Ok, Err}
+use Rattle.std.specs.Prelude.{⊤, Result, Err}
 use Rattle.encoding.specs.declared.check.ListError.{ListError}
 use Rattle.encoding.specs.declared.check.ListError.TheVariants.{NotOpened}
 use Rattle.examining.specs.Marks.{ran}

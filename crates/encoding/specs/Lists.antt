@@ -1,7 +1,7 @@
 -- A list of calls in lent buffers: which calls it is, and how a bad one is refused. Definitions only.
-use Rattle.std.specs.Prelude.{⊤, ℕ, zero, suc, ◌+◌, ◌-◌, ◌*◌, ◌/◌, ◌%◌, Bool, true, false, List, [], ◌∷◌, length, take, drop, eqb, Float, Result, Ok, Err}
+use Rattle.std.specs.Prelude.{⊤, ℕ, zero, suc, ◌+◌, ◌-◌, ◌*◌, ◌/◌, ◌%◌, List, [], ◌∷◌, length, take, drop, eqb, Float, Result, Ok, Err}
 use Rattle.encoding.specs.declared.check.ListError.{ListError}
-use Rattle.encoding.specs.declared.check.ListError.TheVariants.{NotOpened, Lengths, NoCall, NoRoom}
+use Rattle.encoding.specs.declared.check.ListError.TheVariants.{Lengths, NoCall, NoRoom}
 use Rattle.base.specs.Pick.{pick}
 use Rattle.model.specs.Host.{Call}
 use Rattle.encoding.specs.Words.{words_at, is_call, taken_by, nothing, plus, within, call_of}

@@ -4,25 +4,22 @@ use Rattle.encoding.specs.declared.check.ListError.{ListError}
 use Rattle.model.specs.declared.settings.SettingsError.{SettingsError}
 use Prim.Native.Nat.{ℕ}
 use mathlib.Core.Path.{◌≡◌, refl, sym, ap, subst, ◌∙◌}
-use mathlib.Core.Bool.{Bool, true, false, not}
+use mathlib.Core.Bool.{Bool, true, false}
 use mathlib.Core.List.{List}
 use lib.ListN.{length}
-use lib.Dec.{T, eqb}
 use lib.Ieee.{Float}
-use borrow.Author.Tests.{not-true, not-false, eq-eqb}
-use Rattle.base.proofs.Picks.{pick-t, pick-f}
+use Rattle.base.proofs.Picks.{pick-t}
 use Rattle.model.specs.Settings.{settings_answer, is_given, accepts}
 use Rattle.model.specs.State.{State}
 use Rattle.model.specs.declared.session.Session.{Session}
 use Rattle.model.specs.declared.settings.Settings.{Settings}
 use Rattle.opening.specs.Opens.{Opens}
 use Rattle.opening.specs.Refusal.{number_of}
-use Rattle.opening.proofs.Refusals.{none-is-given}
 use Rattle.encoding.specs.Words.{words_at}
 use Rattle.encoding.specs.Lists.{Lent}
 use Rattle.answers.specs.Code.{answer_in}
 use Rattle.replay.specs.Runs.{Carries}
-use Rattle.tally.specs.Table.{Noted, empty}
+use Rattle.tally.specs.Table.{empty}
 use Rattle.marking.specs.Noting.{note_of, table_of}
 use Rattle.tally.specs.declared.account.Account.{Account}
 use Rattle.tally.specs.declared.account.Full as tally

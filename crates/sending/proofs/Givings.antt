@@ -1,5 +1,5 @@
 -- What a call gives that wrote nothing, and one that wrote packets. Assumes nothing.
-use Rattle.std.proofs.Common.{◌≡◌, ◌∙◌, ℕ, ◌≤◌, List, [], length, sym, refl, ap, subst, arith}
+use Rattle.std.proofs.Common.{◌≡◌, ℕ, ◌≤◌, List, [], length, sym, refl, ap, subst, arith}
 use lib.Ieee.{Float}
 use Rattle.octets.specs.Written.{written}
 use Rattle.model.specs.Answer.{Answer}

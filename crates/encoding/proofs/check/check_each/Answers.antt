@@ -3,12 +3,11 @@ use Prim.Native.Nat.{◌+◌, ◌-◌, ◌/◌, ◌<◌}
 use mathlib.Core.Path.{◌≡◌, sym, ap, subst, ◌∙◌}
 use lib.ListN.{length}
 use native.Mathlib.Omega.{arith}
-use Rattle.base.proofs.Tests.{was}
 use Rattle.encoding.specs.Words.{Within}
 use Rattle.encoding.specs.Lists.{check_from}
 use Rattle.encoding.specs.declared.words.Amounts.{Amounts}
 use Rattle.encoding.proofs.Fitting.{within-says}
-use Rattle.encoding.proofs.Checks.{was-call, now-taken, had-room, starts, no_call, no_room, goes_on, all-checked}
+use Rattle.encoding.proofs.Checks.{was-call, now-taken, had-room, no_call, no_room, goes_on, all-checked}
 use Rattle.encoding.proofs.check.check_each.Goals as goal
 
 pub returns-then-not-is_call : goal.returns-then-not-is_call

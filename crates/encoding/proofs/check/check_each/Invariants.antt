@@ -1,5 +1,5 @@
 -- `encoding::check::check_each` meets its contract: each turn of the loop is one call on. Assumes nothing.
-use Prim.Native.Nat.{◌-◌, ◌≤◌}
+use Prim.Native.Nat.{◌-◌}
 use mathlib.Core.Path.{◌≡◌}
 use Rattle.encoding.specs.Words.{nothing, Within}
 use Rattle.encoding.specs.Lists.{check_from}

@@ -1,6 +1,6 @@
 -- `marking::note::arrived` meets its contract. Assumes nothing.
-use mathlib.Core.Path.{refl, sym, ◌∙◌}
-use Rattle.marking.proofs.Codes.{nothing_said, event-said}
+use mathlib.Core.Path.{sym, ◌∙◌}
+use Rattle.marking.proofs.Codes.{event-said}
 use Rattle.marking.proofs.note.arrived.Goals as goal
 
 pub returns-in-Some : goal.returns-in-Some

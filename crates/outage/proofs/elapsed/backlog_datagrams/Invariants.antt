@@ -1,7 +1,7 @@
 -- `outage::elapsed::backlog_datagrams` meets its contract: each turn of the loop takes one number off what is left of the walk. Assumes nothing.
-use Prim.Native.Nat.{◌≤◌, ◌-◌, ◌+◌, min}
+use Prim.Native.Nat.{◌≤◌, ◌+◌, min}
 use mathlib.Core.Path.{◌≡◌}
-use lib.ListN.{length, drop}
+use lib.ListN.{drop}
 use Rattle.double.specs.Whole.{most}
 use Rattle.model.specs.Rules.{backlog}
 use Rattle.outage.proofs.elapsed.backlog_datagrams.Given as goal

@@ -1,5 +1,5 @@
 -- `receiving::queue::copy_out` meets its contract: each turn of the loop leaves one number more at the front. Assumes nothing.
-use Prim.Native.Nat.{ℕ, ◌≤◌, ◌-◌, ◌+◌}
+use Prim.Native.Nat.{ℕ, ◌+◌}
 use mathlib.Core.Path.{◌≡◌}
 use mathlib.Core.List.{◌++◌}
 use lib.ListN.{length, get_or, drop}

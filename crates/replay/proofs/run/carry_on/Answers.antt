@@ -1,5 +1,5 @@
 -- `replay::run::carry_on` meets its contract. Assumes nothing.
-use Rattle.std.specs.Prelude.{◌≡◌, length, Ok, Err}
+use Rattle.std.specs.Prelude.{◌≡◌, length, Err}
 use Rattle.std.proofs.Common.{◌∙◌, refl, sym, ap}
 use Rattle.std.proofs.lemmas.Grind.{common_steps}
 use native.Mathlib.Omega.{arith}

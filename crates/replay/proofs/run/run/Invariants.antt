@@ -1,5 +1,4 @@
 -- `replay::run::run` meets its contract: each turn of the loop is one call of the list. Assumes nothing.
-use Prim.Native.Nat.{◌-◌, ◌≤◌}
 use mathlib.Core.Path.{◌≡◌}
 use lib.ListN.{length}
 use Rattle.model.specs.Gives.{joined}

@@ -1,7 +1,7 @@
 -- `sending::send::send` meets its contract: one packet behind the last. Assumes nothing.
 use Rattle.std.proofs.Common.{arith, refl}
 use Rattle.model.proofs.Room.{packet-size}
-use Rattle.sending.proofs.Progresses.{offset-small, sent-packet}
+use Rattle.sending.proofs.Progresses.{sent-packet}
 use Rattle.sending.proofs.send.send.Goals as goal
 
 pub overflow_add-p : goal.overflow_add-p

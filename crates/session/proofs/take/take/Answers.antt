@@ -7,7 +7,6 @@ use native.Mathlib.Omega.{arith}
 use borrow.Author.Tests.{lt-ltb, le-ltb}
 use Rattle.base.proofs.Picks.{pick-t, pick-f}
 use Rattle.base.proofs.Tests.{was}
-use Rattle.model.specs.State as State
 use Rattle.model.specs.Take as Take
 use Rattle.model.specs.Gives.{joined}
 use Rattle.session.proofs.Takes.{within, taken_out}

@@ -1,6 +1,5 @@
 -- `turns::call::arrival` meets its contract. Assumes nothing.
 use Rattle.turns.proofs.Arms.{arrived}
-use Rattle.turns.proofs.Dispatch.{bounds}
 use Rattle.turns.proofs.call.arrival.Goals as goal
 
 pub returns : goal.returns
