@@ -38,11 +38,15 @@ impl Desk {
             if !self.goes_on(&input, out) {
                 break;
             }
-            match input.next(&text) {
-                Next::Line(line) | Next::TooLong(line) => run(self, Some(line), out),
-                Next::Over => run(self, None, out),
-                Next::Cut => input.read_on(from, &mut text, out),
-            }
+            let line = match input.next(&text) {
+                Next::Line(line) | Next::TooLong(line) => Some(line),
+                Next::Over => None,
+                Next::Cut => {
+                    input.read_on(from, &mut text, out);
+                    continue;
+                }
+            };
+            run(self, line, out);
         }
         self.end(input.fault(), name, out)
     }
