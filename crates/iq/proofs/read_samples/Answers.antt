@@ -29,9 +29,6 @@ loop-i-preserved c =
           (c.s24_after.ensures ∙ ap (λ (at : ℕ). sample_of (be_at 3 a.buf.now at)) e),
     )
 
-pub shape_of-out : goal.shape_of-out
-shape_of-out c = c.loop-i.invariant.0
-
 pub returns : goal.returns
 unfolding samples_of
 returns c =

@@ -1,18 +1,12 @@
 -- `double::parts::split` meets its contract: the scale says how many of the digits stand after the point. Assumes nothing.
 use Rattle.std.proofs.Common.{arith}
-use Rattle.double.proofs.Splits.{split-tiny, split-mid, split-high, split-over, unit-is, unit-pos}
+use Rattle.double.proofs.Splits.{split-tiny, split-mid, split-high, split-over, unit-is}
 use Rattle.double.proofs.parts.split.Goals as goal
 
 pub returns-then-k-lt1020 : goal.returns-then-k-lt1020
 returns-then-k-lt1020 c =
     let a = c.apart-p in
     split-tiny c.args.x a.result.negative a.result.digits a.result.scale c.min.result a.ensures c.if-k-lt1020.true c.min.ensures
-
-pub nonzero_div-result : goal.nonzero_div-result
-nonzero_div-result c = unit-pos c.apart-p.result.scale (omega arith) (omega arith)
-
-pub nonzero_rem-result : goal.nonzero_rem-result
-nonzero_rem-result c = unit-pos c.apart-p.result.scale (omega arith) (omega arith)
 
 pub returns-then-k-lt1074 : goal.returns-then-k-lt1074
 returns-then-k-lt1074 c =

@@ -1,7 +1,7 @@
 -- `double::time::nanos_of` meets its contract: the quotient and the rest of the two limbs, by the scale. Assumes nothing.
 use Rattle.std.proofs.Common.{ℕ, ◌-◌, ◌<◌, ◌∙◌, lt_of_le_of_lt, arith}
 use native.Mathlib.Nat.{mod-le}
-use Rattle.double.proofs.Nanos.{nanos-tiny, nanos-over, nanos-fine, past-at, coarse-at, sum_fits, product-fits, two-parts, one_shl, b_of, r_of, r_small, b-small, shl1, shl1-pos, shl1-even}
+use Rattle.double.proofs.Nanos.{nanos-tiny, nanos-over, nanos-fine, past-at, coarse-at, sum_fits, product-fits, two-parts, one_shl, b_of, r_of, r_small, b-small, shl1, shl1-even}
 use Rattle.double.proofs.time.nanos_of.Goals as goal
 
 pub returns-then-k-lt990 : goal.returns-then-k-lt990
@@ -9,12 +9,6 @@ returns-then-k-lt990 c = nanos-tiny c.args.d c.args.k c.requires.0 c.if-k-lt990.
 
 pub returns-then-k-ge1074 : goal.returns-then-k-ge1074
 returns-then-k-ge1074 c = nanos-over c.args.d c.args.k (c.requires.1 c.if-k-ge1074.true) c.if-k-ge1074.true
-
-pub nonzero_div-b-then-k-lt1048 : goal.nonzero_div-b-then-k-lt1048
-nonzero_div-b-then-k-lt1048 c = shl1-pos (1048 - c.args.k) (omega arith)
-
-pub nonzero_rem-b : goal.nonzero_rem-b
-nonzero_rem-b c = shl1-pos (1048 - c.args.k) (omega arith)
 
 pub to_even-requires : goal.to_even-requires
 to_even-requires c =
@@ -31,24 +25,15 @@ returns-then-b-u c =
     let g = c.args in
     past-at g.d g.k c.if-k-ge1074.false c.if-k-lt1048.false c.if-b-u.true
 
-pub nonzero_div-u : goal.nonzero_div-u
-nonzero_div-u c = shl1-pos (1074 - c.args.k) (omega arith)
-
 pub overflow_mul-b-2 : goal.overflow_mul-b-2
 overflow_mul-b-2 c =
     let g = c.args in
     record { fits = product-fits g.d g.k c.if-k-ge1074.false c.if-k-lt1048.false c.if-b-u.false }
 
-pub nonzero_div-r : goal.nonzero_div-r
-nonzero_div-r c = shl1-pos (1074 - c.args.k) (omega arith)
-
 pub overflow_add-b-2 : goal.overflow_add-b-2
 overflow_add-b-2 c =
     let g = c.args in
     record { fits = sum_fits g.d g.k c.if-k-ge1074.false c.if-k-lt1048.false c.if-b-u.false }
-
-pub nonzero_rem-r-2 : goal.nonzero_rem-r-2
-nonzero_rem-r-2 c = shl1-pos (1074 - c.args.k) (omega arith)
 
 pub to_even-requires-2 : goal.to_even-requires-2
 to_even-requires-2 c =

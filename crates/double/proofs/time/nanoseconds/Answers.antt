@@ -1,5 +1,5 @@
 -- `double::time::nanoseconds` meets its contract: the digits and scale of what is above 0 and finite, and the ends of the range. Assumes nothing.
-use Rattle.std.proofs.Common.{T, sym, ◌∙◌, subst, arith}
+use Rattle.std.proofs.Common.{T, sym, ◌∙◌, subst}
 use lib.Ieee.{of_bits}
 use Rattle.double.specs.Seconds.{nanos_at}
 use Rattle.double.proofs.Decode.{tested}
@@ -9,9 +9,6 @@ use Rattle.double.proofs.time.nanoseconds.Goals as goal
 
 pub apart-p-requires : goal.apart-p-requires
 apart-p-requires c = subst T (sym (tested c.args.x c.is_finite.ensures.value c.if-is_finite.true)) tt
-
-pub nanos_of-requires : goal.nanos_of-requires
-nanos_of-requires c = (c.apart-p.ensures.small, λ h. c.apart-p.ensures.full (omega arith))
 
 pub returns-then-is_finite : goal.returns-then-is_finite
 unfolding of_bits

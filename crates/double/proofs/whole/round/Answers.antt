@@ -10,7 +10,3 @@ round_up_from_zero-requires c = neg-up c.args.x c.if-x.true
 
 pub returns-then-x : goal.returns-then-x
 returns-then-x c = ap neg c.round_up_from_zero.ensures ∙ neg-own c.args.x
-
-pub round_up_from_zero-requires-2 : goal.round_up_from_zero-requires-2
-unfolding of_bits
-round_up_from_zero-requires-2 c = c.if-x.false

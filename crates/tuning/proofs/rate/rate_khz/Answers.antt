@@ -3,21 +3,15 @@ use mathlib.Core.Path.{refl, subst}
 use Prim.Native.Nat.{◌*◌}
 use native.Mathlib.Omega.{arith}
 use Rattle.tuning.specs.Rate.{is_rate}
-use Rattle.tuning.proofs.RateLoop.{Going, going-few, going_on, going-none, going-found}
+use Rattle.tuning.proofs.RateLoop.{Going, going_on, going-none, going-found}
 use Rattle.tuning.proofs.rate.rate_khz.Goals as goal
 
 pub loop-init : goal.loop-init
 unfolding is_rate
 loop-init c = (refl, refl)
 
-pub overflow_cast-result : goal.overflow_cast-result
-overflow_cast-result c = let most = going-few c.args.rate _ _ c.loop.invariant in omega arith
-
 pub returns-then-hz-rate : goal.returns-then-hz-rate
 returns-then-hz-rate c = going-found c.args.rate c.loop.hz _ (omega arith) c.if-hz-rate.true c.loop.invariant
-
-pub overflow_mul-hz : goal.overflow_mul-hz
-overflow_mul-hz c = let most = going-few c.args.rate _ _ c.loop.invariant in omega arith
 
 pub loop-preserved : goal.loop-preserved
 loop-preserved c = subst (Going c.args.rate (c.loop.hz * 2)) (omega arith) (going_on c.args.rate c.loop.hz _ (omega arith) c.if-hz-rate.false c.loop.invariant)

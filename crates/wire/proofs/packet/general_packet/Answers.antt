@@ -1,6 +1,5 @@
 -- `wire::packet::general_packet` meets its contract: refused for room, or three fields stored after the count. Assumes nothing.
 use mathlib.Core.List.{[], ◌∷◌}
-use lib.ListN.{length-set}
 use native.Mathlib.Omega.{arith}
 use Rattle.octets.specs.Packet.{field}
 use Rattle.octets.proofs.Packets.{singly-stored}
@@ -10,12 +9,6 @@ use Rattle.wire.proofs.packet.general_packet.Goals as goal
 
 pub returns-then-out-lt-GENERAL_LEN : goal.returns-then-out-lt-GENERAL_LEN
 returns-then-out-lt-GENERAL_LEN c = no_room 60 _ _ (omega arith)
-
-pub bounds-out-38 : goal.bounds-out-38
-bounds-out-38 c = simp length-set (omega arith)
-
-pub bounds-out-59 : goal.bounds-out-59
-bounds-out-59 c = simp length-set (omega arith)
 
 pub returns : goal.returns
 unfolding general_packet

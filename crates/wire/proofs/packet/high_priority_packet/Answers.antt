@@ -15,27 +15,6 @@ use Rattle.wire.proofs.packet.high_priority_packet.Goals.{then-run, else-run, th
 pub returns-then-out-lt-HIGH_PRIORITY_LEN : goal.returns-then-out-lt-HIGH_PRIORITY_LEN
 returns-then-out-lt-HIGH_PRIORITY_LEN c = no_room 1444 _ _ (omega arith)
 
-pub put_u32-requires : goal.put_u32-requires
-put_u32-requires c = simp length-set (omega arith)
-
-pub put_u32-requires-2 : goal.put_u32-requires-2
-put_u32-requires-2 c = omega (arith, simp length-set at c.put_u32.auto.p)
-
-pub put_u32-requires-3 : goal.put_u32-requires-3
-put_u32-requires-3 c = omega (arith, simp length-set at c.put_u32.auto.p)
-
-pub put_u32-requires-4 : goal.put_u32-requires-4
-put_u32-requires-4 c =
-    omega (arith, simp length-set at c.put_u32.auto.p)
-
-pub bounds-out-1443 : goal.bounds-out-1443
-bounds-out-1443 c =
-    omega (arith, simp length-set at c.put_u32.auto.p)
-
-pub shape_of-out : goal.shape_of-out
-shape_of-out c =
-    simp length-set (omega (arith, simp length-set at c.put_u32.auto.p))
-
 pub returns : goal.returns
 unfolding high_packet
 returns c =

@@ -13,19 +13,6 @@ use Rattle.wire.proofs.packet.rx_specific_packet.Goals as goal
 pub returns-then-out-lt-RX_SPECIFIC_LEN : goal.returns-then-out-lt-RX_SPECIFIC_LEN
 returns-then-out-lt-RX_SPECIFIC_LEN c = no_room 1444 _ _ (omega arith)
 
-pub bounds-out-7 : goal.bounds-out-7
-bounds-out-7 c = simp length-set (omega arith)
-
-pub put_u16-requires : goal.put_u16-requires
-put_u16-requires c = simp length-set (omega arith)
-
-pub bounds-out-22 : goal.bounds-out-22
-bounds-out-22 c = omega (arith, simp length-set at c.put_u16.auto.p)
-
-pub shape_of-out : goal.shape_of-out
-shape_of-out c =
-    simp length-set (c.put_u16.auto.p ∙ simp length-set c.start.auto.p)
-
 pub returns : goal.returns
 unfolding rx_packet
 returns c =

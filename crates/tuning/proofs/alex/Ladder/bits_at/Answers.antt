@@ -13,6 +13,3 @@ offset_bounds-self-rung c =
 
 pub bounds-self-rung : goal.bounds-self-rung
 bounds-self-rung c = let n : length c.args.self.limits ≡ 6 = search rules in in_table _ _ _ 7 c.rung.ensures (omega arith)
-
-pub returns : goal.returns
-returns c = rw c.rung.ensures
