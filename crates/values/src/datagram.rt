@@ -19,7 +19,8 @@ fn put_pairs(p: &mut [u8], number: u32)
 }
 
 // An I/Q datagram made from its number, and 0 up to 2048 octets.
-pub fn put_iq(p: &mut [u8; MOST_OCTETS], number: u32, bits: u16, samples: u16)
+pub fn put_iq(p: &mut [u8], number: u32, bits: u16, samples: u16)
+    requires { 2048 ≤ length p.old }
     ensures { p.new ≡ written p.old 0 (iq_octets number bits samples) }
 {
     octets::clear(p, MOST_OCTETS);
@@ -30,7 +31,8 @@ pub fn put_iq(p: &mut [u8; MOST_OCTETS], number: u32, bits: u16, samples: u16)
 }
 
 // A status packet, all 0 but octet 5.
-pub fn put_status(p: &mut [u8; MOST_OCTETS], octet: u8)
+pub fn put_status(p: &mut [u8], octet: u8)
+    requires { 60 ≤ length p.old }
     ensures { p.new ≡ written p.old 0 (status_octets octet) }
 {
     octets::clear(p, 60);

@@ -3,8 +3,6 @@ ghost use Rattle.std.specs.Prelude.{◌≡◌, ◌*◌, ◌≤◌, length};
 ghost use Rattle.octets.specs.Written.{written};
 ghost use Rattle.values.specs.Octets.{hexadecimal, pairs_of, octets_seen, octet_count};
 
-use stream::MOST_OCTETS;
-
 // Puts the octets that w spells at the front of room, up to the first that is no pair of digits; false where there is one.
 fn decode(w: &[u8], count: usize, room: &mut [u8]) -> bool
     requires { (count * 2 ≡ length w.now) × (count ≤ length room.old) }
@@ -26,7 +24,8 @@ fn decode(w: &[u8], count: usize, room: &mut [u8]) -> bool
 }
 
 // The octets of a word, or `-` for none: how many. A word that can't be read leaves what was written before its reading stopped.
-pub fn octets(w: &[u8], room: &mut [u8; MOST_OCTETS]) -> Option<u64>
+pub fn octets(w: &[u8], room: &mut [u8]) -> Option<u64>
+    requires { 2048 ≤ length room.old }
     ensures { (result ≡ octet_count w.now) ×
         (room.new ≡ written room.old 0 (octets_seen w.now)) }
 {

@@ -35,7 +35,8 @@ fn fill(numbers: &mut [u32], at: usize, first: u64, k: u64)
 }
 
 // With commas between: how many. A word that can't be read leaves what was written before its reading stopped.
-pub fn waiting(w: &[u8], numbers: &mut [u32; MOST_NUMBERS]) -> Option<u64>
+pub fn waiting(w: &[u8], numbers: &mut [u32]) -> Option<u64>
+    requires { 8193 ≤ length numbers.old }
     ensures { (result ≡ waiting_count w.now) ×
         (numbers.new ≡ written numbers.old 0 (waiting_seen w.now)) }
 {
