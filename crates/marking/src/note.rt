@@ -80,12 +80,7 @@ fn number(datagram: &[u8]) -> u32
 fn number_of(octets: &[u8; 2048], n: u64) -> u32
     ensures { result ≡ number_in (part 0 n octets.now) }
 {
-    let all = &octets[..];
-    if n > 2048 {
-        return number(all);
-    }
-    let end = n as usize;
-    number(&all[0..end])
+    number(&octets[..n.min(2048) as usize])
 }
 
 // A call, noted, from its eight numbers, the datagram that it brought (encoding), and its answer's eight numbers (answers). Where it

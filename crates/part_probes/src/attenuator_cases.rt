@@ -7,11 +7,22 @@ use casebook::answer::Answer;
 // A call's octets: its kind, and the reading big-endian.
 const CALL: usize = 9;
 
-const CLEAR: u8 = 0;
+// What a kind asks of the controller: 0, 1 and 2.
+#[derive(Clone, Copy)]
+enum Call {
+    Clear,
+    Overload,
+    Tick,
+}
 
-const OVERLOAD: u8 = 1;
-
-const TICK: u8 = 2;
+fn call_of(kind: u8) -> Option<Call> {
+    match kind {
+        0 => Some(Call::Clear),
+        1 => Some(Call::Overload),
+        2 => Some(Call::Tick),
+        _ => None,
+    }
+}
 
 pub fn reading(p: &[u8], at: usize) -> u64
     requires { at + 8 ≤ length p.now }
@@ -28,11 +39,11 @@ pub fn put_reading(p: &mut [u8], at: usize, v: u64)
     octets::put_u32(p, at + 4, (v % 4294967296) as u32);
 }
 
-fn called(c: &mut Controller, kind: u8, now: u64) -> Option<AttenuationStep> {
-    match kind {
-        CLEAR => c.observe(false, now),
-        OVERLOAD => c.observe(true, now),
-        _ => c.tick(now),
+fn called(c: &mut Controller, call: Call, now: u64) -> Option<AttenuationStep> {
+    match call {
+        Call::Clear => c.observe(false, now),
+        Call::Overload => c.observe(true, now),
+        Call::Tick => c.tick(now),
     }
 }
 
@@ -63,10 +74,9 @@ fn run(opened: Controller, p: &mut [u8]) -> Answer {
         if call.len() < CALL {
             return Answer::Nothing;
         }
-        let kind = call[0];
-        if kind > TICK {
+        let Some(kind) = call_of(call[0]) else {
             return Answer::Nothing;
-        }
+        };
         let step = called(&mut c, kind, reading(call, 1));
         octets::put_u32(call, 0, told(step, c.db));
     }
@@ -75,15 +85,15 @@ fn run(opened: Controller, p: &mut [u8]) -> Answer {
 
 // n is the level, the hold, the trip and the release time, and the opening reading.
 pub fn calls(n: [u64; 6], p: &mut [u8]) -> Answer {
-    if n[0] > 255 {
+    let Ok(db) = u8::try_from(n[0]) else {
         return Answer::Nothing;
-    }
+    };
     let timing = Timing {
         hold: n[1],
         trip_after: n[2],
         release_after: n[3],
     };
-    run(Controller::new(n[0] as u8, n[4], timing), p)
+    run(Controller::new(db, n[4], timing), p)
 }
 
 // The usual hold, trip and release time by 0, 1 and 2.

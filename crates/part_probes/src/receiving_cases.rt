@@ -64,15 +64,11 @@ fn waiting(p: &[u8], out: &mut [u32]) -> usize
     requires { 32 ≤ length p.now }
     ensures { result ≤ length out.new }
 {
-    let mut at = WINDOW;
-    for i in 0..out.len() {
-        if p.len() - at < 4 {
-            return i;
-        }
-        out[i] = octets::get_u32(p, at);
-        at += 4;
+    let given = &p[WINDOW..];
+    for (number, octets) in out.iter_mut().zip(given.chunks_exact(4)) {
+        *number = octets::get_u32(octets, 0);
     }
-    out.len()
+    out.len().min(given.len() / 4)
 }
 
 // n is the rate, the last accepted reading, the arrival's reading, the later one, and the number expected next.
@@ -110,12 +106,10 @@ fn with_window(row: usize, n: [u64; 6], p: &mut [u8]) -> Answer {
 }
 
 fn port(n: u64, offset: u64) -> Answer {
-    if n < 65536 {
-        if offset < 256 {
-            return Answer::Number(destination(n as u16, offset as u8) as u64);
-        }
+    match (u16::try_from(n), u8::try_from(offset)) {
+        (Ok(n), Ok(offset)) => Answer::Number(u64::from(destination(n, offset))),
+        _ => Answer::Nothing,
     }
-    Answer::Nothing
 }
 
 // p is what the case gives, and is changed in place.

@@ -1,15 +1,24 @@
 // The episode of a soft stall: its test, and a list of calls run on it.
-ghost use Rattle.std.specs.Prelude.{◌≤◌};
-
 use casebook::answer::Answer;
 use probes::double_cases::of_bool;
 use stall::StallEpisode;
 
-const DELIVERY: u8 = 0;
+// What a kind asks of the episode: 0, 1 and 2.
+#[derive(Clone, Copy)]
+enum Call {
+    Delivery,
+    Report,
+    Take,
+}
 
-const REPORT: u8 = 1;
-
-const TAKE: u8 = 2;
+fn call_of(kind: u8) -> Option<Call> {
+    match kind {
+        0 => Some(Call::Delivery),
+        1 => Some(Call::Report),
+        2 => Some(Call::Take),
+        _ => None,
+    }
+}
 
 // n is the soft time, whether samples came, the last sample's reading, the reading now and the hard time.
 pub fn due(n: [u64; 6]) -> Answer {
@@ -24,33 +33,27 @@ pub fn due(n: [u64; 6]) -> Answer {
 }
 
 // The calls that hand out nothing tell no stall.
-fn called(e: &mut StallEpisode, kind: u8) -> bool {
-    match kind {
-        DELIVERY => e.note_delivery(),
-        REPORT => e.report(),
-        _ => return e.take(),
+fn called(e: &mut StallEpisode, call: Call) -> bool {
+    match call {
+        Call::Delivery => e.note_delivery(),
+        Call::Report => e.report(),
+        Call::Take => return e.take(),
     }
     false
 }
 
-fn bit(b: bool) -> u8
-    ensures { result ≤ 1 }
-{
-    if b { 1 } else { 0 }
-}
-
 fn told(stalled: bool, e: StallEpisode) -> u8 {
-    bit(stalled) * 4 + bit(e.delivering) * 2 + bit(e.pending)
+    u8::from(stalled) * 4 + u8::from(e.delivering) * 2 + u8::from(e.pending)
 }
 
 // An octet of p is a call, and becomes what it told and left. No answer where its kind is unknown.
 pub fn calls(p: &mut [u8]) -> Answer {
     let mut e = StallEpisode::new();
     for x in p.iter_mut() {
-        if *x > TAKE {
+        let Some(call) = call_of(*x) else {
             return Answer::Nothing;
-        }
-        let stalled = called(&mut e, *x);
+        };
+        let stalled = called(&mut e, call);
         *x = told(stalled, e);
     }
     Answer::Octets

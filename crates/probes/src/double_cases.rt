@@ -40,8 +40,17 @@ pub fn of_bool(b: bool) -> Answer {
     Answer::Number(if b { 1 } else { 0 })
 }
 
-// The rows from 0 on that take one double.
-fn of_one(row: usize, x: f64) -> Answer {
+pub fn of_number(n: Option<u64>) -> Answer {
+    match n {
+        Some(n) => Answer::Number(n),
+        None => Answer::Nothing,
+    }
+}
+
+// Those of one double come first, then those of a number and, but for seconds, a rate, then those of two numbers.
+pub fn answer(row: usize, n: [u64; 6]) -> Answer {
+    let x = double_of(n[0]);
+    let rate = double_of(n[1]);
     match row {
         0 => of_bool(x.is_finite()),
         1 => of_bool(whole::is_whole(x)),
@@ -51,32 +60,14 @@ fn of_one(row: usize, x: f64) -> Answer {
         5 => Answer::Number(u64::from(whole::cast_u32(x))),
         6 => of_double(whole::round(x)),
         7 => Answer::Number(time::nanoseconds(x)),
+        8 => of_double(time::seconds(n[0])),
+        9 => Answer::Number(stream::jump_limit(n[0], rate)),
+        10 => Answer::Number(stream::restart_missing(n[0], rate)),
+        11 => Answer::Number(stream::account_time(n[0], rate)),
+        12 => Answer::Number(stream::covered_time(n[0], rate)),
+        13 => of_bool(stream::below_half(n[0], rate)),
+        14 => Answer::Number(n[0].saturating_sub(n[1])),
+        15 => Answer::Number(n[0].saturating_add(n[1])),
         _ => Answer::Nothing,
     }
-}
-
-// The rows that take a number, and but for seconds a rate.
-fn of_number(row: usize, n: u64, rate: f64) -> Answer {
-    match row {
-        8 => of_double(time::seconds(n)),
-        9 => Answer::Number(stream::jump_limit(n, rate)),
-        10 => Answer::Number(stream::restart_missing(n, rate)),
-        11 => Answer::Number(stream::account_time(n, rate)),
-        12 => Answer::Number(stream::covered_time(n, rate)),
-        13 => of_bool(stream::below_half(n, rate)),
-        _ => Answer::Nothing,
-    }
-}
-
-pub fn answer(row: usize, n: [u64; 6]) -> Answer {
-    if row < 8 {
-        return of_one(row, double_of(n[0]));
-    }
-    if row == 14 {
-        return Answer::Number(n[0].saturating_sub(n[1]));
-    }
-    if row == 15 {
-        return Answer::Number(n[0].saturating_add(n[1]));
-    }
-    of_number(row, n[0], double_of(n[1]))
 }

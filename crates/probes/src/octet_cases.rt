@@ -1,8 +1,7 @@
 // The functions of octets that a case can name. A row is counted from 0, in the order of the table.
-ghost use Rattle.std.specs.Prelude.{◌<◌};
-
 use super::double_cases::of_bool;
 use casebook::answer::Answer;
+use octets::{clear, get_u16, get_u32, is_zero, put_u16, put_u24, put_u32};
 
 pub const TABLE: [u8; 74] = *b"get_u16 1o\n\
     get_u32 1o\n\
@@ -12,61 +11,28 @@ pub const TABLE: [u8; 74] = *b"get_u16 1o\n\
     clear 1o\n\
     is_zero 2o";
 
-fn get(row: usize, p: &[u8], at: usize) -> Answer
-    requires { at < 65536 }
-{
-    if row == 0 {
-        if at + 2 <= p.len() {
-            return Answer::Number(octets::get_u16(p, at) as u64);
-        }
+// The rows that read: up to a place, or as many octets as the function's number has.
+fn read(row: usize, p: &[u8], at: usize, to: u64) -> Answer {
+    let len = p.len();
+    match row {
+        0 if at.saturating_add(2) <= len => Answer::Number(u64::from(get_u16(p, at))),
+        1 if at.saturating_add(4) <= len => Answer::Number(u64::from(get_u32(p, at))),
+        6 if to <= len as u64 => of_bool(is_zero(p, at, to as usize)),
+        _ => Answer::Nothing,
     }
-    if row == 1 {
-        if at + 4 <= p.len() {
-            return Answer::Number(octets::get_u32(p, at) as u64);
-        }
-    }
-    Answer::Nothing
 }
 
-fn put(row: usize, p: &mut [u8], at: usize, v: u32) -> Answer
-    requires { at < 65536 }
-{
-    if row == 2 {
-        if v < 65536 {
-            if at + 2 <= p.len() {
-                octets::put_u16(p, at, v as u16);
-                return Answer::Octets;
-            }
-        }
+// The rows that write, where there is room: a number, or zeros.
+fn write(row: usize, p: &mut [u8], at: usize, v: Option<u32>) -> Answer {
+    let len = p.len();
+    match (row, v) {
+        (2, Some(v)) if at.saturating_add(2) <= len && v < 65536 => put_u16(p, at, v as u16),
+        (3, Some(v)) if at.saturating_add(3) <= len => put_u24(p, at, v),
+        (4, Some(v)) if at.saturating_add(4) <= len => put_u32(p, at, v),
+        (5, _) if at <= len => clear(p, at),
+        _ => return Answer::Nothing,
     }
-    if row == 3 {
-        if at + 3 <= p.len() {
-            octets::put_u24(p, at, v);
-            return Answer::Octets;
-        }
-    }
-    if row == 4 {
-        if at + 4 <= p.len() {
-            octets::put_u32(p, at, v);
-            return Answer::Octets;
-        }
-    }
-    Answer::Nothing
-}
-
-fn clear(p: &mut [u8], n: usize) -> Answer {
-    if n <= p.len() {
-        octets::clear(p, n);
-        return Answer::Octets;
-    }
-    Answer::Nothing
-}
-
-fn is_zero(p: &[u8], from: usize, to: u64) -> Answer {
-    if to <= p.len() as u64 {
-        return of_bool(octets::is_zero(p, from, to as usize));
-    }
-    Answer::Nothing
+    Answer::Octets
 }
 
 // p is what the case gives, and is changed in place. No answer where a place or a value is outside what the function asks.
@@ -75,18 +41,8 @@ pub fn answer(row: usize, n: [u64; 6], p: &mut [u8]) -> Answer {
         return Answer::Nothing;
     }
     let at = n[0] as usize;
-    let v = n[1];
-    if row < 2 {
-        return get(row, p, at);
+    match row {
+        0 | 1 | 6 => read(row, p, at, n[1]),
+        _ => write(row, p, at, u32::try_from(n[1]).ok()),
     }
-    if row == 5 {
-        return clear(p, at);
-    }
-    if row == 6 {
-        return is_zero(p, at, v);
-    }
-    if v < 4294967296 {
-        return put(row, p, at, v as u32);
-    }
-    Answer::Nothing
 }

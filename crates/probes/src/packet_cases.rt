@@ -36,54 +36,36 @@ fn board(adcs: u8, enable: u8) -> BoardInfo {
     }
 }
 
-// No answer where a number is not of the type that the function takes.
-fn with_board(row: usize, n: [u64; 6], p: &mut [u8]) -> Answer {
-    if n[0] < 4294967296 {
-        if n[1] < 256 {
-            if n[2] < 256 {
-                if n[3] < 65536 {
-                    let b = board(n[1] as u8, n[2] as u8);
-                    if row == 0 {
-                        return of_packet(general_packet(n[0] as u32, b, p));
-                    }
-                    return of_packet(rx_specific_packet(n[0] as u32, b, n[3] as u16, p));
-                }
-            }
-        }
-    }
-    Answer::Nothing
+// None where a number is not of the type that the function takes.
+fn general(n: [u64; 6], p: &mut [u8]) -> Option<Answer> {
+    let seq = u32::try_from(n[0]).ok()?;
+    let b = board(u8::try_from(n[1]).ok()?, u8::try_from(n[2]).ok()?);
+    Some(of_packet(general_packet(seq, b, p)))
 }
 
-fn transmit(n: u64, p: &mut [u8]) -> Answer {
-    if n < 4294967296 {
-        return of_packet(tx_specific_packet(n as u32, p));
-    }
-    Answer::Nothing
+fn receive(n: [u64; 6], p: &mut [u8]) -> Option<Answer> {
+    let seq = u32::try_from(n[0]).ok()?;
+    let b = board(u8::try_from(n[1]).ok()?, u8::try_from(n[2]).ok()?);
+    let khz = u16::try_from(n[3]).ok()?;
+    Some(of_packet(rx_specific_packet(seq, b, khz, p)))
 }
 
-fn high_priority(n: [u64; 6], p: &mut [u8]) -> Answer {
-    if n[0] < 4294967296 {
-        if n[1] < 2 {
-            if n[2] < 4294967296 {
-                if n[3] < 4294967296 {
-                    if n[4] < 4294967296 {
-                        if n[5] < 256 {
-                            return of_packet(high_priority_packet(
-                                n[0] as u32,
-                                n[1] == 1,
-                                n[2] as u32,
-                                n[3] as u32,
-                                n[4] as u32,
-                                n[5] as u8,
-                                p,
-                            ));
-                        }
-                    }
-                }
-            }
-        }
+fn transmit(n: [u64; 6], p: &mut [u8]) -> Option<Answer> {
+    let seq = u32::try_from(n[0]).ok()?;
+    Some(of_packet(tx_specific_packet(seq, p)))
+}
+
+fn high_priority(n: [u64; 6], p: &mut [u8]) -> Option<Answer> {
+    let seq = u32::try_from(n[0]).ok()?;
+    let phase = u32::try_from(n[2]).ok()?;
+    let alex0 = u32::try_from(n[3]).ok()?;
+    let alex1 = u32::try_from(n[4]).ok()?;
+    let db = u8::try_from(n[5]).ok()?;
+    if n[1] > 1 {
+        return None;
     }
-    Answer::Nothing
+    let run = n[1] == 1;
+    Some(of_packet(high_priority_packet(seq, run, phase, alex0, alex1, db, p)))
 }
 
 // What the octets are after a packet was to be written, whether it was or not. The writers stand in the table's order.
@@ -136,53 +118,46 @@ fn bits_of(x: f32) -> u32 {
 
 // Place i of an output that has four places more than a datagram fills, each of which holds 7.
 fn sample(p: &[u8], i: u64) -> Answer {
-    if i >= 480 {
-        return Answer::Nothing;
-    }
     let mut out = [7.0f32; 480];
-    let a = parse_iq_datagram(p, &mut out);
-    let Ok(_) = a else {
-        return of_iq(a);
-    };
-    Answer::Double(bits_of(out[i as usize]) as u64)
+    let read = parse_iq_datagram(p, &mut out);
+    match (read, out.get(i as usize)) {
+        (_, None) => Answer::Nothing,
+        (Ok(_), Some(x)) => Answer::Double(u64::from(bits_of(*x))),
+        (refused, _) => of_iq(refused),
+    }
 }
 
 // An output of n places.
-fn room(p: &[u8], n: u64) -> Answer {
-    if n > 480 {
-        return Answer::Nothing;
-    }
-    let n = n as usize;
+fn room(p: &[u8], n: u64) -> Option<Answer> {
     let mut out = [7.0f32; 480];
-    of_iq(parse_iq_datagram(p, &mut out[0..n]))
+    Some(of_iq(parse_iq_datagram(p, out.get_mut(..n as usize)?)))
 }
 
 // Place i of 480, of which n are the output, after a datagram was to be read, whether it was or not.
-fn kept(p: &[u8], n: u64, i: u64) -> Answer {
-    if n > 480 {
-        return Answer::Nothing;
-    }
-    if i >= 480 {
-        return Answer::Nothing;
-    }
-    let n = n as usize;
+fn kept(p: &[u8], n: u64, i: u64) -> Option<Answer> {
     let mut out = [7.0f32; 480];
-    let _ = parse_iq_datagram(p, &mut out[0..n]);
-    Answer::Double(bits_of(out[i as usize]) as u64)
+    let _ = parse_iq_datagram(p, out.get_mut(..n as usize)?);
+    let x = out.get(i as usize)?;
+    Some(Answer::Double(u64::from(bits_of(*x))))
+}
+
+fn or_nothing(a: Option<Answer>) -> Answer {
+    a.unwrap_or(Answer::Nothing)
 }
 
 // p is what the case gives, and a packet is written to it in place.
 pub fn answer(row: usize, n: [u64; 6], p: &mut [u8]) -> Answer {
     match row {
-        0 | 1 => with_board(row, n, p),
-        2 => transmit(n[0], p),
-        3 => high_priority(n, p),
+        0 => or_nothing(general(n, p)),
+        1 => or_nothing(receive(n, p)),
+        2 => or_nothing(transmit(n, p)),
+        3 => or_nothing(high_priority(n, p)),
         4 => left(n[0], p),
         5 => overload(p),
         6 => of_iq(iq_header(p)),
         7 => given(iq_header(p)),
         8 => sample(p, n[0]),
-        9 => room(p, n[0]),
-        _ => kept(p, n[0], n[1]),
+        9 => or_nothing(room(p, n[0])),
+        _ => or_nothing(kept(p, n[0], n[1])),
     }
 }

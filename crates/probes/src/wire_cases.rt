@@ -1,9 +1,9 @@
 // The functions of wire on numbers that a case can name. A row is counted from 0, in the order of the table.
-use super::double_cases::{double_of, of_bool};
+use super::double_cases::{double_of, of_number};
 use casebook::answer::Answer;
 use sequence::{SeqEvent, SeqTracker};
-use tuning::alex::alex_words;
-use tuning::board::{FilterScheme, board_info};
+use tuning::alex::{AlexWords, alex_words};
+use tuning::board::{BoardInfo, FilterScheme, board_info};
 use tuning::phase::phase_word;
 use tuning::rate::{is_rate_khz, rate_khz};
 use wire::status::adc0_overload;
@@ -25,148 +25,104 @@ pub const TABLE: [u8; 175] = *b"phase_word 1\n\
 
 fn rate(x: f64) -> Answer {
     match rate_khz(x) {
-        Some(khz) => Answer::Number(khz as u64),
+        Some(khz) => Answer::Number(u64::from(khz)),
         None => Answer::Refused(3),
     }
 }
 
-fn is_rate(khz: u64) -> Answer {
-    if khz < 65536 {
-        return of_bool(is_rate_khz(khz as u16));
-    }
-    Answer::Nothing
-}
-
-fn scheme_of(n: u64) -> FilterScheme {
+fn scheme_of(n: u64) -> Option<FilterScheme> {
     match n {
-        0 => FilterScheme::None,
-        1 => FilterScheme::Classic,
-        2 => FilterScheme::BandPassDual,
-        3 => FilterScheme::BandPass,
-        _ => FilterScheme::Bypass,
+        0 => Some(FilterScheme::None),
+        1 => Some(FilterScheme::Classic),
+        2 => Some(FilterScheme::BandPassDual),
+        3 => Some(FilterScheme::BandPass),
+        4 => Some(FilterScheme::Bypass),
+        _ => None,
     }
 }
 
-fn of_scheme(s: FilterScheme) -> Answer {
+fn of_scheme(s: FilterScheme) -> u64 {
     match s {
-        FilterScheme::None => Answer::Number(0),
-        FilterScheme::Classic => Answer::Number(1),
-        FilterScheme::BandPassDual => Answer::Number(2),
-        FilterScheme::BandPass => Answer::Number(3),
-        FilterScheme::Bypass => Answer::Number(4),
+        FilterScheme::None => 0,
+        FilterScheme::Classic => 1,
+        FilterScheme::BandPassDual => 2,
+        FilterScheme::BandPass => 3,
+        FilterScheme::Bypass => 4,
     }
 }
 
-fn alex(row: usize, scheme: u64, f: f64) -> Answer {
-    if scheme > 4 {
-        return Answer::Nothing;
-    }
-    let w = alex_words(scheme_of(scheme), f);
-    if row == 2 {
-        return Answer::Number(w.alex0 as u64);
-    }
-    Answer::Number(w.alex1 as u64)
+fn alex(n: [u64; 6]) -> Option<AlexWords> {
+    Some(alex_words(scheme_of(n[0])?, double_of(n[1])))
 }
 
 // 256 stands for a discovery that was skipped.
-fn board_of(n: u64) -> Option<u8> {
-    if n < 256 {
-        return Some(n as u8);
-    }
-    None
-}
-
-fn board(row: usize, n: u64) -> Answer {
+fn board(n: u64) -> Option<BoardInfo> {
     if n > 256 {
-        return Answer::Nothing;
+        return None;
     }
-    let info = board_info(board_of(n));
-    if row == 4 {
-        return Answer::Number(info.adc_count as u64);
-    }
-    if row == 5 {
-        return Answer::Number(info.filter_enable as u64);
-    }
-    let scheme = info.scheme;
-    of_scheme(scheme)
+    Some(board_info(u8::try_from(n).ok()))
 }
 
-fn overload(n: u64) -> Answer {
-    if n < 256 {
-        return of_bool(adc0_overload(n as u8));
+fn number_of(e: SeqEvent) -> u64 {
+    match e {
+        SeqEvent::InOrder => 0,
+        SeqEvent::Gap(_) => 1,
+        SeqEvent::Stale => 2,
+        SeqEvent::Restart => 3,
     }
-    Answer::Nothing
 }
 
 pub fn of_event(e: SeqEvent) -> Answer {
-    match e {
-        SeqEvent::InOrder => Answer::Number(0),
-        SeqEvent::Gap(_) => Answer::Number(1),
-        SeqEvent::Stale => Answer::Number(2),
-        SeqEvent::Restart => Answer::Number(3),
-    }
+    Answer::Number(number_of(e))
 }
 
-fn of_gap(e: SeqEvent) -> Answer {
+fn gap_of(e: SeqEvent) -> u64 {
     if let SeqEvent::Gap(k) = e {
-        return Answer::Number(k as u64);
+        return u64::from(k);
     }
-    Answer::Number(0)
+    0
 }
 
-// The tracker expects a number after every arrival.
-fn of_tracker(row: usize, t: SeqTracker) -> Answer {
-    if row == 11 {
-        return Answer::Number(t.stale_run as u64);
-    }
-    match t.expected {
-        Some(n) => Answer::Number(n as u64),
-        None => Answer::Nothing,
-    }
+// What an arrival is to a tracker, and the tracker after it.
+fn observed(n: [u64; 6]) -> Option<(SeqEvent, SeqTracker)> {
+    let next = u32::try_from(n[1]).ok()?;
+    let stale_run = u32::try_from(n[2]).ok()?;
+    let seq = u32::try_from(n[3]).ok()?;
+    let expected = match n[0] {
+        0 => None,
+        1 => Some(next),
+        _ => return None,
+    };
+    let mut tracker = SeqTracker {
+        expected,
+        stale_run,
+    };
+    Some((tracker.observe(seq), tracker))
 }
 
-fn of_observed(row: usize, event: SeqEvent, t: SeqTracker) -> Answer {
-    if row == 8 {
-        return of_event(event);
-    }
-    if row == 9 {
-        return of_gap(event);
-    }
-    of_tracker(row, t)
-}
-
-fn expected_of(has: u64, n: u32) -> Option<u32> {
-    if has == 0 { None } else { Some(n) }
-}
-
-fn observe(row: usize, has: u64, next: u64, run: u64, seq: u64) -> Answer {
-    if has < 2 {
-        if next < 4294967296 {
-            if run < 4294967296 {
-                if seq < 4294967296 {
-                    let expected = expected_of(has, next as u32);
-                    let stale_run = run as u32;
-                    let mut t = SeqTracker {
-                        expected,
-                        stale_run,
-                    };
-                    let event = t.observe(seq as u32);
-                    return of_observed(row, event, t);
-                }
-            }
-        }
-    }
-    Answer::Nothing
+// The number that a row gives. None where a number is not of the type that the function takes.
+fn number(row: usize, n: [u64; 6]) -> Option<u64> {
+    let given = match row {
+        0 => u64::from(phase_word(double_of(n[0]))),
+        2 => u64::from(alex(n)?.alex0),
+        3 => u64::from(alex(n)?.alex1),
+        4 => u64::from(board(n[0])?.adc_count),
+        5 => u64::from(board(n[0])?.filter_enable),
+        6 => of_scheme(board(n[0])?.scheme),
+        7 => u64::from(adc0_overload(u8::try_from(n[0]).ok()?)),
+        8 => number_of(observed(n)?.0),
+        9 => gap_of(observed(n)?.0),
+        // the tracker expects a number after every arrival
+        10 => u64::from(observed(n)?.1.expected?),
+        11 => u64::from(observed(n)?.1.stale_run),
+        _ => u64::from(is_rate_khz(u16::try_from(n[0]).ok()?)),
+    };
+    Some(given)
 }
 
 pub fn answer(row: usize, n: [u64; 6]) -> Answer {
     match row {
-        0 => Answer::Number(phase_word(double_of(n[0])) as u64),
         1 => rate(double_of(n[0])),
-        2 | 3 => alex(row, n[0], double_of(n[1])),
-        4 | 5 | 6 => board(row, n[0]),
-        7 => overload(n[0]),
-        12 => is_rate(n[0]),
-        _ => observe(row, n[0], n[1], n[2], n[3]),
+        _ => of_number(number(row, n)),
     }
 }

@@ -7,7 +7,6 @@ use encoding::lent::Calls;
 use examining::sitting::end_of;
 use lines::Opening;
 use model::session::Session;
-use opening::settings::refusal;
 use replay::run::{Replayed, replay};
 use session::readers::{attenuation_db, center_freq_hz, sample_rate};
 use stream::F32_PER_DATAGRAM;
@@ -40,9 +39,8 @@ fn tuned(s: &Session) -> Tuning {
 }
 
 fn read_off(r: Replayed) -> Left {
-    let refused = refusal(r.answer);
-    if refused != 0 {
-        return Left::Refused(refused);
+    if let Err(e) = r.answer {
+        return Left::Refused(e.number());
     }
     if r.outcome.is_err() {
         return Left::NotRun;
