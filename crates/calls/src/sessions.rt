@@ -55,24 +55,16 @@ pub(crate) enum Came {
 pub(crate) fn radio_of(held: Option<Sitting>) -> Option<Endpoint>
     ensures { is_some result ≡ is_some held }
 {
-    match held {
-        Some(sitting) => {
-            let settings = sitting.session.common.settings;
-            Some(Endpoint {
-                ip: settings.radio_ip,
-                port: settings.port,
-            })
-        }
-        None => None,
-    }
+    let settings = held?.session.common.settings;
+    Some(Endpoint {
+        ip: settings.radio_ip,
+        port: settings.port,
+    })
 }
 
 // Its account, in which a call is noted.
 pub(crate) fn account_of(held: Option<Sitting>) -> Account {
-    match held {
-        Some(sitting) => sitting.account,
-        None => none(),
-    }
+    held.map_or(none(), |sitting| sitting.account)
 }
 
 // A call. That of which a stretch has no room is the last: the account does not stand any more, and is not told.

@@ -17,21 +17,19 @@ pub(crate) enum Function {
     Part(usize),
     Receiving(usize),
     Radio(usize),
-    Unknown,
 }
 
 // The function of this name that is given so many numbers, and octets or none.
-pub(crate) fn named(name: &[u8], given: Given) -> Function {
+pub(crate) fn named(name: &[u8], given: Given) -> Option<Function> {
     let row = |table: &[u8]| find(table, name, given.count, given.octets.is_some());
-    let found = row(&octet_cases::TABLE)
+    row(&octet_cases::TABLE)
         .map(|row| Function::Octet(row))
         .or_else(|| row(&double_cases::TABLE).map(|row| Function::Double(row)))
         .or_else(|| row(&wire_cases::TABLE).map(|row| Function::Wire(row)))
         .or_else(|| row(&packet_cases::TABLE).map(|row| Function::Packet(row)))
         .or_else(|| row(&part_cases::TABLE).map(|row| Function::Part(row)))
         .or_else(|| row(&receiving_cases::TABLE).map(|row| Function::Receiving(row)))
-        .or_else(|| row(&radio_cases::TABLE).map(|row| Function::Radio(row)));
-    found.unwrap_or(Function::Unknown)
+        .or_else(|| row(&radio_cases::TABLE).map(|row| Function::Radio(row)))
 }
 
 // p is the octets that the case gives.
@@ -44,6 +42,5 @@ pub(crate) fn answer(f: Function, n: [u64; 6], p: &mut [u8]) -> Answer {
         Function::Part(row) => part_cases::answer(row, n, p),
         Function::Receiving(row) => receiving_cases::answer(row, n, p),
         Function::Radio(row) => radio_cases::answer(row, n, p),
-        Function::Unknown => Answer::Nothing,
     }
 }

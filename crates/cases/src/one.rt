@@ -27,10 +27,12 @@ fn one_case(c: Case, given: &mut [u8], wanted: &mut [u8], out: &mut Output) -> b
         report::not_understood(out);
         return false;
     };
-    let f = named(c.name, c.given);
     let n = c.given.octets.unwrap_or(0);
     let numbers = c.given.numbers;
-    let a = answer(f, numbers, &mut given[..n]);
+    let a = match named(c.name, c.given) {
+        Some(f) => answer(f, numbers, &mut given[..n]),
+        None => Answer::Nothing,
+    };
     told(a, &given[..n], expected, wanted, out)
 }
 

@@ -37,6 +37,7 @@ pub fn sit(settings: Settings, opening: u64) -> Result<Sitting, SettingsError>
     ensures { Sits result settings opening }
 {
     let opened = open(settings, opening);
+    // no `?`: the edit of a session of refused settings stands on the case of an Err, and with `?` it would name no case
     match opened.answer {
         Ok(_) => Ok(Sitting {
             session: opened.session,
@@ -55,10 +56,7 @@ fn noted(
 ) -> Result<(), Unmarked>
     ensures { Notes result asked.now.call asked.now.octets given.now.answers a.old a.new table.old table.new }
 {
-    match note(table, a, &asked.call, &asked.octets, &given.answers) {
-        Ok(()) => Ok(()),
-        Err(_) => Err(Unmarked::Full),
-    }
+    note(table, a, &asked.call, &asked.octets, &given.answers).map_err(|_| Unmarked::Full)
 }
 
 // One call, run and noted: what it is and brings, and what it is lent, as one of a list (`replay::run::carry_on`). Its answer goes to the

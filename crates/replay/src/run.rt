@@ -12,7 +12,6 @@ use encoding::words::{Amounts, CALL_LEN, nothing, plus, taken_by, words_at};
 use model::session::Session;
 use model::settings::{Settings, SettingsError};
 use opening::open::open;
-use opening::settings::refusal;
 use stream::F32_PER_DATAGRAM;
 use turns::turn::{Part, turn_at};
 
@@ -81,7 +80,7 @@ pub fn carry_on(
 fn is_accepted(answer: Result<u16, SettingsError>) -> bool
     ensures { result ≡ is_given (settings_answer answer) }
 {
-    refusal(answer) == 0
+    answer.is_ok()
 }
 
 // How many samples are lent. Their type says it; demand 3 needs it said of the list.

@@ -49,7 +49,7 @@ pub(crate) fn octets(p: &[u8], n: usize) -> u32 {
 
 // A NaN, which no sample is, has one pattern.
 fn bits_of(x: f32) -> u32 {
-    if x != x {
+    if x.is_nan() {
         return 0x7fc0_0000;
     }
     f32::to_bits(x)
