@@ -4,12 +4,11 @@ use mathlib.Core.Bool.{Bool, true, false}
 use mathlib.Core.List.{List, [], ◌∷◌}
 use Prim.Native.Nat.{ℕ, zero, suc, ◌+◌, ◌≤◌, ◌<◌}
 use native.Mathlib.Omega.{arith}
-use borrow.Author.Tests.{leb-true, leb-false}
-use lib.Dec.{leb, ltb}
+use borrow.Author.Tests.{leb-true}
+use lib.Dec.{leb}
 use lib.ListN.{length, get_or, set, get_or-replicate}
 use Rattle.base.specs.Pick.{pick}
 use Rattle.std.specs.Prelude.{Option, Some, None, Ok, Err}
-use Rattle.lines.specs.declared.option.Untaken.TheVariants.{Unknown, Unreadable}
 use Rattle.lines.specs.declared.argument.Kind.{Kind}
 use Rattle.lines.specs.declared.argument.Kind.TheVariants.{Reading}
 use Rattle.values.specs.Value.{given, up_to}
@@ -17,7 +16,7 @@ use Rattle.lines.specs.Key.{buffer_key, waiting_key, length_key, bits_key, sampl
 use Rattle.lines.specs.declared.name.Name.{Name}
 use Rattle.lines.specs.Name.{form}
 use Rattle.lines.specs.Argument.{most, argument_as, argument, argument_values}
-use Rattle.lines.specs.Option.{Took, Taken, spelling, limit, spelt_as, said, key_at, value_at, equals_in, value_of, took_key, took, values_key, values_after, and_then, options_took, options_values}
+use Rattle.lines.specs.Option.{Took, Taken, spelling, limit, spelt_as, key_at, value_at, equals_in, value_of, took, values_key, values_after, and_then, options_took, options_values}
 use borrow.Author.Rules.{rules}
 use Rattle.std.specs.Option.{unwrap_or}
 use Rattle.lines.specs.declared.Endpoint.{Endpoint}
@@ -79,21 +78,6 @@ held-arguments name (t ∷ ts) (w ∷ ws) j l d e h =
     held-arguments name ts ws (j + 1) (set l j v) (omega arith) f (held_word name l j v h (omega (arith, ap most k, up-to-most (most t) (argument_as t w))))
 
 -- ---- options
-
-took-below : (from to : ℕ) (l : List (Option ℕ)) (w : List ℕ) → took from to l w ≡ Taken → key_at (equals_in w) w < to
-unfolding took took_key pick
-took-below from to l w e = go (leb (length w) (equals_in w)) (ltb key from) (leb to key) refl e
-  where
-    key : ℕ
-    key = key_at (equals_in w) w
-
-    go : (a b c : Bool) → leb to key ≡ c
-        → pick a (Err Unknown) (pick b (Err Unknown) (pick c (Err Unknown) (pick (said l key) (Err Unknown) (given (value_of key (value_at (equals_in w) w)) (λ n. Taken) (Err (Unreadable key)))))) ≡ Taken
-        → key < to
-    go true b c q e = let z : ◌≡◌ {A = ℕ} 0 1 = cc in absurd (omega arith)
-    go false true c q e = let z : ◌≡◌ {A = ℕ} 0 1 = cc in absurd (omega arith)
-    go false false true q e = let z : ◌≡◌ {A = ℕ} 0 1 = cc in absurd (omega arith)
-    go false false false q e = leb-false to key q
 
 held-option : (from to : ℕ) (l : List (Option ℕ)) (w : List ℕ) → to ≤ key_count → took from to l w ≡ Taken → HeldKeys l → HeldKeys (values_after l w)
 unfolding values_after values_key

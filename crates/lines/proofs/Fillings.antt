@@ -2,7 +2,6 @@
 use mathlib.Core.Path.{◌≡◌, refl, sym, ap, ◌∙◌}
 use mathlib.Core.List.{List, [], ◌∷◌}
 use Prim.Native.Nat.{ℕ, suc, ◌+◌, ◌-◌, ◌≤◌, ◌<◌}
-use native.Mathlib.Nat.{sub-zero}
 use native.Mathlib.Numerals.{add-one}
 use native.Mathlib.Omega.{arith}
 use lib.ListN.{length, drop, get_or, set, drop_of_length-le}
@@ -39,18 +38,6 @@ pub record Filling (ts : List Kind) (s l d left : List ℕ) (j : ℕ) (m n : Lis
   pub seen : arguments_seen (drop j ts) (words left) n ≡ arguments_seen ts (words s) d
   pub follows : drop (length ts - j) (words left) ≡ drop (length ts) (words s)
   pub rest : arguments_rest (drop j ts) (words left) ≡ arguments_rest ts (words s)
-
-pub filling : (ts : List Kind) (s l d : List ℕ) → Filling ts s l d s 0 l d
-filling ts s l d =
-    record {
-      most = omega arith;
-      told = refl;
-      values = refl;
-      octets = refl;
-      seen = refl;
-      follows = rw (sub-zero (length ts));
-      rest = refl;
-    }
 
 module _ (ts : List Kind) (s l d left : List ℕ) (j : ℕ) (m n : List ℕ) (i : Filling ts s l d left j m n) where
   pub filled : length ts ≤ j → Arguments ts l d (words s) None left m n

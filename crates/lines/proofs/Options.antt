@@ -142,9 +142,6 @@ pub record Running (from to : ℕ) (s : List ℕ) (l : List (Option ℕ)) (d lef
   pub seen : options_seen from to m n (words left) ≡ options_seen from to l d (words s)
   pub rest : options_rest from to m (words left) ≡ options_rest from to l (words s)
 
-pub running : (from to : ℕ) (s : List ℕ) (l : List (Option ℕ)) (d : List ℕ) → Running from to s l d s l d
-running from to s l d = record { told = refl; values = refl; numbers = refl; seen = refl; rest = refl }
-
 module _ (from to : ℕ) (s : List ℕ) (l : List (Option ℕ)) (d left : List ℕ) (m : List (Option ℕ)) (n : List ℕ) (i : Running from to s l d left m n) where
   pub no_more : words left ≡ [] → Ran from to l d (words s) Taken m n
   unfolding options_took options_values options_numbers options_seen

@@ -64,10 +64,6 @@ heard-said reading number c v =
 -- ---- what is made of it
 
 module _ (t : List ℕ) (a : Account) (reading number c v : ℕ) where
-  pub nothing_said : None ≡ said_of (answer_of c v) → (r : Noted) → r ≡ fitting a
-      → (r ≡ noted_by a (heard_as reading number (answer_of c v))) × (t ≡ table_noted t a (heard_as reading number (answer_of c v)))
-  nothing_said e r h = let z = heard-said reading number c v ∙ ap (record_said reading number v) (sym e) in (rw z h, rw z refl)
-
   pub event-said : (w : Event) → Some w ≡ said_of (answer_of c v) → (r : Noted) (t' : List ℕ)
       → (r ≡ noted_by a (record_said reading number v (Some w))) × (t' ≡ table_noted t a (record_said reading number v (Some w)))
       → (r ≡ noted_by a (heard_as reading number (answer_of c v))) × (t' ≡ table_noted t a (heard_as reading number (answer_of c v)))

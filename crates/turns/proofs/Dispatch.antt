@@ -11,15 +11,13 @@ use Rattle.base.specs.Pick.{pick}
 use Rattle.model.specs.Host.{Call, Begin, Pass, Arrival, Take, Close, TakeMissing, TakeDiscontinuity, TakeStalled}
 use Rattle.model.specs.State.{State}
 use Rattle.model.specs.Session.{step}
-use Rattle.model.specs.Gives.{joined, incoming}
+use Rattle.model.specs.Gives.{incoming}
 use Rattle.std.specs.Prelude.{Option, Some, None, IfSome}
 use Rattle.std.specs.Option.{unwrap_or}
 use Rattle.encoding.specs.declared.kind.Kind.{Kind}
 use Rattle.encoding.specs.declared.kind.Kind.TheVariants as kind
 use Rattle.encoding.specs.Words.{kind_number, is_call, lends_packets, sender_of, call_of}
-use Rattle.answers.specs.Code.{numbers_of}
 use Rattle.turns.specs.Reply.{Replies}
-use Rattle.turns.specs.Turns.{Turns}
 use Rattle.encoding.specs.declared.words.Words.{Words}
 use Rattle.turns.specs.declared.call.Replied.{Replied}
 use Rattle.model.specs.declared.session.Session.{Session}
@@ -94,10 +92,3 @@ by_kind w o n d f e g c p q st r s samples (hc, hp, hq) x =
     subst (λ (y : Call). Replies r s samples (pick (lends_packets w.kind) e []) (pick (eqb w.kind 3) g []) (step st y)) (sym hc)
     (subst (λ (y : List ℕ). Replies r s samples y (pick (eqb w.kind 3) g []) (step st c)) (sym hp)
     (subst (λ (y : List Float). Replies r s samples p y (step st c)) (sym hq) x))
-
--- and with the answer as eight numbers it is a turn of the walk
-pub turn_is : (w : Words) (o n d : List ℕ) (f : List Float) (e : List ℕ) (g : List Float) (st : State) (r : Replied) (s : Session) (samples : List Float) (out : List ℕ)
-    → out ≡ numbers_of r.answer r.streams → Replies r s samples (pick (lends_packets w.kind) e []) (pick (eqb w.kind 3) g []) (step st (call_of w o n d f))
-    → Turns w st o n d f (joined s samples) e g out
-turn_is w o n d f e g st r s samples out h x =
-    record { answered = h ∙ rw (x.answers, x.lists) refl; wrote = x.writes; handed = x.hands; left = x.leaves }
