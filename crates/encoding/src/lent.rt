@@ -41,6 +41,8 @@ impl Asked {
     }
 }
 
+const SILENCE: f32 = 0.0;
+
 // What one call gives: its packets, its samples, and its answer's eight numbers.
 #[derive(Drop)]
 pub struct Given {
@@ -52,11 +54,11 @@ pub struct Given {
 impl Given {
     // Zeros alone.
     pub fn new() -> Given
-        ensures { (result.packets ≡ replicate 8192 0) × (result.answers ≡ replicate 8 0) }
+        ensures { result ≡ record { packets = replicate 8192 0; places = replicate 1024 SILENCE; answers = replicate 8 0 } }
     {
         Given {
             packets: [0; 8192],
-            places: [0.0; 1024],
+            places: [SILENCE; 1024],
             answers: [0; 8],
         }
     }

@@ -76,7 +76,7 @@ pub fn receiver(pending: Pending) -> Receiver {
 }
 
 // An arrival of whose datagram only the readings and the numbers behind it are looked at.
-pub fn arrived(reading: u64, later: u64, waiting: &[u32]) -> Incoming {
+pub(crate) fn arrived(reading: u64, later: u64, waiting: &[u32]) -> Incoming {
     Incoming {
         reading,
         later,

@@ -40,7 +40,7 @@ pub fn of_bool(b: bool) -> Answer {
     Answer::Number(if b { 1 } else { 0 })
 }
 
-pub fn of_number(n: Option<u64>) -> Answer {
+pub(crate) fn of_number(n: Option<u64>) -> Answer {
     match n {
         Some(n) => Answer::Number(n),
         None => Answer::Nothing,
