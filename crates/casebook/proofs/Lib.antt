@@ -1,1 +1,2 @@
--- `casebook` needs no laws of its own.
+-- The laws of `casebook`.
+pub mod Parts

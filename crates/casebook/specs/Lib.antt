@@ -1,1 +1,1 @@
--- The functions of `casebook` are promised safe and ending, and no more.
+-- The contracts of `casebook` cite no definitions of its own.

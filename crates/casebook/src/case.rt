@@ -1,5 +1,6 @@
 // A line taken apart: the function's name, what it is given, and the word that is expected.
 ghost use Rattle.std.specs.Prelude.{◌≤◌, IfSome, length};
+ghost use Rattle.text.specs.Part.{Behind, StandsIn};
 
 use super::words::{decode, split_word};
 
@@ -21,7 +22,9 @@ pub struct Case<'a> {
 }
 
 // The numbers up to the first word that is none, how many they are, and what follows them.
-fn leading(s: &[u8]) -> ([u64; 6], usize, &[u8]) {
+fn leading(s: &[u8]) -> ([u64; 6], usize, &[u8])
+    ensures { Behind s.now result.2.now }
+{
     let mut numbers = [0u64; 6];
     let mut left = s;
     for count in 0..6 {
@@ -36,7 +39,9 @@ fn leading(s: &[u8]) -> ([u64; 6], usize, &[u8]) {
 }
 
 // The expected word is the last of the line, after a sign of equality of its own.
-fn expected(s: &[u8]) -> Option<&[u8]> {
+fn expected(s: &[u8]) -> Option<&[u8]>
+    ensures { IfSome result (λ word. StandsIn s.now word.now) }
+{
     let (sign, rest) = split_word(s);
     let (word, rest) = split_word(rest);
     let (last, _) = split_word(rest);
@@ -45,6 +50,8 @@ fn expected(s: &[u8]) -> Option<&[u8]> {
 
 // The octets go to room.
 pub fn read<'a>(line: &'a [u8], room: &mut [u8]) -> Case<'a>
+    ensures name { StandsIn line.now result.name.now }
+    ensures expected { IfSome result.expected (λ word. StandsIn line.now word.now) }
     ensures octets_in_bounds { IfSome result.given.octets (λ count. count ≤ length room.new) }
 {
     let (name, rest) = split_word(line);

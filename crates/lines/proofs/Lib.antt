@@ -7,3 +7,4 @@ pub mod Bounds
 pub mod Calls
 pub mod Openings
 pub mod Rests
+pub mod Stood

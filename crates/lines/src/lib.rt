@@ -2,6 +2,7 @@
 #![tactic(auto)]
 
 ghost use Rattle.std.specs.Prelude.{◌≡◌};
+ghost use Rattle.text.specs.Part.{StandsIn};
 ghost use Rattle.lines.specs.Call.{Lent};
 ghost use Rattle.lines.specs.Open.{opening_of, radio_of};
 ghost use Rattle.lines.specs.Found.{found_in, first_in};
@@ -96,14 +97,16 @@ pub fn read_open(line: &[u8]) -> Opening
 
 // The word of a line that can't be read, for whoever tells of it. It is empty if the line ends there, or can be read.
 pub fn found(line: &[u8]) -> &[u8]
-    ensures { result.now ≡ found_in line.now }
+    ensures word { result.now ≡ found_in line.now }
+    ensures stands { StandsIn line.now result.now }
 {
     stops::found_in(line)
 }
 
 // The first word of a line, which names its call. It is empty if the line has no words.
 pub fn first_word(line: &[u8]) -> &[u8]
-    ensures { result.now ≡ first_in line.now }
+    ensures word { result.now ≡ first_in line.now }
+    ensures stands { StandsIn line.now result.now }
 {
     stops::first_in(line)
 }

@@ -3,3 +3,4 @@ pub mod Runs
 pub mod Spelling
 pub mod Splits
 pub mod Names
+pub mod Parts

@@ -3,3 +3,4 @@ pub mod Run
 pub mod Number
 pub mod Split
 pub mod Name
+pub mod Part

@@ -1,7 +1,7 @@
 // Words and numbers in a slice of text. Every function is total: a caller goes on with the part of the slice that is left.
 #![tactic(auto)]
 
-ghost use Rattle.std.specs.Prelude.{◌≡◌, ◌≤◌, true, [], length, MatchOption};
+ghost use Rattle.std.specs.Prelude.{◌≡◌, ◌≤◌, true, [], drop, length, MatchOption};
 ghost use Rattle.text.specs.Run.{run, is, other};
 ghost use Rattle.text.specs.Number.{digit_of, digits_of, is_hex, number_of};
 ghost use Rattle.text.specs.Split.{blank, filled, words, FirstWord};
@@ -49,6 +49,13 @@ pub fn split_word(s: &[u8]) -> Option<(&[u8], &[u8])>
         return None;
     }
     Some(left.split_at(find_blank(left)))
+}
+
+// The first word of s from the place `at` on, and what follows it; none where no word is left, and past the end of s.
+pub fn word_at(s: &[u8], at: usize) -> Option<(&[u8], &[u8])>
+    ensures { MatchOption result (words (drop at s.now) ≡ []) (λ p. FirstWord (drop at s.now) p.0.now p.1.now) }
+{
+    split_word(s.get(at..).unwrap_or(&[]))
 }
 
 // The place of w among names with blanks between them. It goes from word to word: `split` gives an empty part
