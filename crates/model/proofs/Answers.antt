@@ -1,4 +1,5 @@
--- An answer in 01's words and numbers, with the streams that it lists, leaves no doubt which answer of the code it was. Assumes nothing.
+-- An answer in 01's words and numbers leaves no doubt which answer of the code it was, but for the streams that it lists; and with them,
+-- none at all. Assumes nothing.
 use Rattle.std.specs.Prelude.{⊤, Result, Ok, Err}
 use Rattle.model.specs.declared.settings.SettingsError.{SettingsError}
 use Rattle.model.specs.declared.settings.SettingsError.TheVariants as settings
@@ -15,6 +16,7 @@ use Rattle.sequence.specs.declared.SeqEvent.TheVariants.{InOrder}
 use Rattle.model.specs.Settings.{settings_answer}
 use Rattle.model.specs.Answer.{refused_by, Word, begun, ready, soft_stall, hard_stall, sent, ignored, status, malformed, malformed_limit, closed, Answer, refused, done, heard, took, slot, flag, begin_answer, pass_answer, arrival_answer, take_answer, close_answer}
 use Rattle.model.specs.Gives.{pass_streams, arrival_streams, close_streams}
+use Rattle.model.specs.Listed.{pass_listing, arrival_listing, close_listing}
 use Rattle.model.specs.declared.command.Streams.{Streams}
 use Rattle.model.specs.declared.answer.PassAnswer.{PassAnswer}
 use Rattle.model.specs.declared.answer.ArrivalAnswer.{ArrivalAnswer}
@@ -170,6 +172,34 @@ unfolding close-back or_refusal pick number word
 close-same (Ok streams) = refl
 close-same (Err r) = refusal_same r _
 
+-- what an answer gives back, with any streams, is its case with these
+pass-case : (l : Streams) (r : Result PassAnswer Refusal) → pass-back (pass_answer r) l ≡ pass_listing l r
+unfolding pass-back or_refusal pass-by pick number word
+pass-case l (Ok pass.Ready) = refl
+pass-case l (Ok pass.SoftStall) = refl
+pass-case l (Ok pass.HardStall) = refl
+pass-case l (Ok (pass.Sent streams)) = refl
+pass-case l (Err r) = refusal_same r _
+
+arrival-case : (l : Streams) (r : Result ArrivalAnswer Refusal) → arrival-back (arrival_answer r) l ≡ arrival_listing l r
+unfolding arrival-back or_refusal arrival-by pick number word event value
+arrival-case l (Ok arrival.Ignored) = refl
+arrival-case l (Ok (arrival.Status streams)) = refl
+arrival-case l (Ok arrival.Malformed) = refl
+arrival-case l (Ok arrival.MalformedLimit) = refl
+arrival-case l (Ok (arrival.Iq e m)) = refl
+arrival-case l (Err r) = refusal_same r _
+
+close-case : (l : Streams) (r : Result Streams Refusal) → close-back (close_answer r) l ≡ close_listing l r
+unfolding close-back or_refusal pick number word
+close-case l (Ok streams) = refl
+close-case l (Err r) = refusal_same r _
+
+told-apart : {A : Type 0} (answer : A → Answer) (back : Answer → Streams → A) (listing : Streams → A → A)
+    → ((l : Streams) (r : A) → back (answer r) l ≡ listing l r)
+    → (r s : A) → answer r ≡ answer s → (l : Streams) → listing l r ≡ listing l s
+told-apart answer back listing case r s h l = sym (case l r) ∙ ap (λ (a : Answer). back a l) h ∙ case l s
+
 pub settings-apart : (r s : Result ℕ SettingsError) → settings_answer r ≡ settings_answer s → r ≡ s
 settings-apart = apart settings_answer settings-back settings-same
 
@@ -187,3 +217,14 @@ take-apart = apart take_answer take_back take_same
 
 pub close-apart : (r s : Result Streams Refusal) → close_answer r ≡ close_answer s → close_streams r ≡ close_streams s → r ≡ s
 close-apart = listed-apart close_answer close_streams close-back close-same
+
+-- ---- without the streams: two answers that are told alike differ at most in the streams that they list
+
+pub pass-told : (r s : Result PassAnswer Refusal) → pass_answer r ≡ pass_answer s → (l : Streams) → pass_listing l r ≡ pass_listing l s
+pass-told = told-apart pass_answer pass-back pass_listing pass-case
+
+pub arrival-told : (r s : Result ArrivalAnswer Refusal) → arrival_answer r ≡ arrival_answer s → (l : Streams) → arrival_listing l r ≡ arrival_listing l s
+arrival-told = told-apart arrival_answer arrival-back arrival_listing arrival-case
+
+pub close-told : (r s : Result Streams Refusal) → close_answer r ≡ close_answer s → (l : Streams) → close_listing l r ≡ close_listing l s
+close-told = told-apart close_answer close-back close_listing close-case

@@ -27,6 +27,7 @@ pub mod Drain
 pub mod Session
 -- how what the code of a call gives is held to these
 pub mod Gives
+pub mod Listed
 -- a refusal changes nothing, what each call leaves as it was, and what is written has room
 pub mod Refusals
 pub mod Leaves
