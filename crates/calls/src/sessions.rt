@@ -100,9 +100,9 @@ fn open(held: &mut Option<Sitting>, line: &[u8], rooms: &Rooms) -> Came
             *held = Some(sitting);
             Came::Opened(Ok(()))
         }
-        Err(e) => {
+        Err(unseated) => {
             *held = None;
-            Came::Opened(Err(e))
+            Came::Opened(Err(unseated.error))
         }
     }
 }

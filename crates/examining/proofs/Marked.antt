@@ -26,28 +26,34 @@ use Rattle.tally.specs.declared.account.Full as tally
 use Rattle.base.specs.Pick.{pick}
 use Rattle.model.specs.Open.{opened}
 use Rattle.examining.specs.Marks.{Sits, ran, Notes, note_run, table_run, Rooms, Marks}
+use Rattle.examining.specs.declared.sitting.Sitting.{Sitting}
 use Rattle.examining.specs.declared.sitting.Unmarked.{Unmarked}
 use Rattle.examining.specs.declared.sitting.Unmarked.TheVariants.{NotRun, Full}
 
 -- ---- opened
 
 module _ (s : Settings) (opening : ℕ) (answer : Result ℕ SettingsError) (x : Session) (o : Opens (record { answer = answer; session = x }) s opening) where
+  beside : (a : Account) → a ≡ empty → ◌≡◌ {A = Sitting} (record { session = x; account = a }) (record { session = opened s opening; account = empty })
+  beside a h = ap (λ (y : Session). record { session = y; account = a }) o.leaves ∙ ap (λ (b : Account). record { session = opened s opening; account = b }) h
+
   pub sits : (khz : ℕ) → answer ≡ Ok khz → (a : Account) → a ≡ empty → Sits (Ok (record { session = x; account = a })) s opening
   unfolding accepts
   sits khz e a h =
       record {
-        opens = ap (λ (y : Session). record { session = y; account = a }) o.leaves ∙ ap (λ (b : Account). record { session = opened s opening; account = b }) h;
+        opens = beside a h;
         accepted = sym (ap is_given (sym o.answers) ∙ ap (λ (r : Result ℕ SettingsError). is_given (settings_answer r)) e);
         refused = tt;
+        closed = tt;
       }
 
-  pub refuses : (e : SettingsError) → answer ≡ Err e → Sits (Err e) s opening
+  pub refuses : (e : SettingsError) → answer ≡ Err e → (a : Account) → a ≡ empty → Sits (Err (record { error = e; closed = record { session = x; account = a } })) s opening
   unfolding accepts
-  refuses e h =
+  refuses e h a n =
       record {
         opens = tt;
         accepted = sym (ap is_given (sym o.answers) ∙ ap (λ (r : Result ℕ SettingsError). is_given (settings_answer r)) h);
         refused = ap (λ (r : Result ℕ SettingsError). number_of (settings_answer r)) (sym h) ∙ ap number_of o.answers;
+        closed = beside a n;
       }
 
 -- ---- a call

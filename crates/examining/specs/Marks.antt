@@ -20,13 +20,14 @@ use Rattle.tally.specs.declared.rows.End.{End}
 use Rattle.examining.specs.declared.sitting.Sitting.{Sitting}
 use Rattle.examining.specs.declared.sitting.Unmarked.{Unmarked}
 use Rattle.examining.specs.declared.sitting.Unmarked.TheVariants.{NotRun, Full}
-use Rattle.model.specs.declared.settings.SettingsError.{SettingsError}
+use Rattle.examining.specs.declared.sitting.Unseated.{Unseated}
 
--- a session just opened, and nothing noted; or the row of the settings that applies
-pub record Sits (r : Result Sitting SettingsError) (s : Settings) (opening : ℕ) : Type 0 where
+-- what Open gives, and nothing noted; where the settings are refused it stands beside the row that applies
+pub record Sits (r : Result Sitting Unseated) (s : Settings) (opening : ℕ) : Type 0 where
   pub opens : IfOk r (λ x. x ≡ record { session = opened s opening; account = empty })
   pub accepted : is_ok r ≡ accepts s
-  pub refused : IfErr r (λ e. settings_number e ≡ number_of (settings_told s))
+  pub refused : IfErr r (λ u. settings_number u.error ≡ number_of (settings_told s))
+  pub closed : IfErr r (λ u. u.closed ≡ record { session = opened s opening; account = empty })
 
 -- what became of a call: whether it was run, and noted
 abbrev pub ran : Result ⊤ Unmarked → Result ⊤ ListError

@@ -22,6 +22,14 @@ pub struct Sitting {
     pub account: Account,
 }
 
+// What `sit` gives where the settings are refused: the row that applies, and the session that Open gives then, which is closed, with an
+// account in which nothing is noted.
+#[derive(Clone, Copy)]
+pub struct Unseated {
+    pub error: SettingsError,
+    pub closed: Sitting,
+}
+
 // Why a call is not noted in the account.
 #[derive(Clone, Copy)]
 pub enum Unmarked {
@@ -31,19 +39,23 @@ pub enum Unmarked {
     Full,
 }
 
-// What Open gives with these settings and this reading, and an account in which nothing is noted; or the row of the settings that
-// applies.
-pub fn sit(settings: Settings, opening: u64) -> Result<Sitting, SettingsError>
+// What Open gives with these settings and this reading, and an account in which nothing is noted; an Err has them beside the row of the
+// settings that applies.
+pub fn sit(settings: Settings, opening: u64) -> Result<Sitting, Unseated>
     ensures { Sits result settings opening }
 {
     let opened = open(settings, opening);
-    // no `?`: the edit of a session of refused settings stands on the case of an Err, and with `?` it would name no case
+    let sitting = Sitting {
+        session: opened.session,
+        account: none(),
+    };
+    // no `map_err`: the edit of a session of refused settings plants one case's sitting in the other
     match opened.answer {
-        Ok(_) => Ok(Sitting {
-            session: opened.session,
-            account: none(),
+        Ok(_) => Ok(sitting),
+        Err(error) => Err(Unseated {
+            error,
+            closed: sitting,
         }),
-        Err(e) => Err(e),
     }
 }
 

@@ -6,7 +6,7 @@ use mathlib.Core.List.{List}
 use lib.ListN.{length}
 use lib.Dec.{T}
 use lib.Ieee.{Float}
-use Rattle.model.specs.declared.settings.SettingsError.{SettingsError}
+use Rattle.examining.specs.declared.sitting.Unseated.{Unseated}
 use Rattle.model.specs.Gives.{joined}
 use Rattle.model.specs.declared.settings.Settings.{Settings}
 use Rattle.lines.specs.Call.{Fit}
@@ -22,7 +22,7 @@ use Rattle.holding.specs.Held.{Goes, Holds, Kept}
 
 -- ---- opened
 
-pub sits-stands : (r : Result Sitting SettingsError) (s : Settings) (opening : ℕ) (samples : List Float) (t : List ℕ) → Sits r s opening → length samples ≡ 476
+pub sits-stands : (r : Result Sitting Unseated) (s : Settings) (opening : ℕ) (samples : List Float) (t : List ℕ) → Sits r s opening → length samples ≡ 476
     → length t ≡ 7 * most_stretches → IfOk r (λ x. Stands (joined x.session samples) t x.account)
 sits-stands (Ok x) s opening samples t h size places =
     subst (λ (y : Sitting). Stands (joined y.session samples) t y.account) (sym h.opens) (opened-stands s opening samples t (subst T h.accepted tt) size places)

@@ -1,6 +1,6 @@
 -- The session that a program holds, and its account. Definitions only.
 use Rattle.std.specs.Prelude.{⊤, ℕ, ◌≡◌, List, Float, Option, Result, Ok, IfSome}
-use Rattle.model.specs.declared.settings.SettingsError.{SettingsError}
+use Rattle.examining.specs.declared.sitting.Unseated.{Unseated}
 use Rattle.model.specs.Gives.{joined}
 use Rattle.lines.specs.Call.{Fit}
 use Rattle.lines.specs.Open.{opening_of}
@@ -11,7 +11,7 @@ use Rattle.examining.specs.declared.sitting.Sitting.{Sitting}
 use Rattle.examining.specs.declared.sitting.Unmarked.{Unmarked}
 
 -- opened by the settings and the reading of this line
-pub record Opens (r : Result Sitting SettingsError) (line : List ℕ) : Type 0 where
+pub record Opens (r : Result Sitting Unseated) (line : List ℕ) : Type 0 where
   pub sits : Sits r (opening_of line).settings (opening_of line).at
 
 -- after a call: run and noted; what a line was read as is run, and where it was noted the account stands as it did

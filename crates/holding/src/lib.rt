@@ -8,9 +8,8 @@ ghost use Rattle.examining.specs.Stands.{Stands};
 ghost use Rattle.holding.specs.Held.{Opens, Goes};
 
 use encoding::lent::{Asked, Given};
-use examining::sitting::{Sitting, Unmarked, mark, sit};
+use examining::sitting::{Sitting, Unmarked, Unseated, mark, sit};
 use lines::read_open;
-use model::settings::SettingsError;
 use stream::F32_PER_DATAGRAM;
 use tally::account::TABLE;
 
@@ -19,13 +18,13 @@ fn lent(samples: &[f32], table: &[u64]) -> usize {
     samples.len() / 2 + table.len() / 2
 }
 
-// By the settings of this line, whose first word is `open`. Its account stands: it is that of the calls which the session ran since it
-// was opened, and only such a one is told.
+// By the settings of this line, whose first word is `open`. Where they are accepted its account stands: it is that of the calls which the
+// session ran since it was opened, and only such a one is told.
 pub fn opened(
     line: &[u8],
     samples: &[f32; F32_PER_DATAGRAM],
     table: &[u64; TABLE],
-) -> Result<Sitting, SettingsError>
+) -> Result<Sitting, Unseated>
     ensures opens { Opens result line.now }
     ensures stands { IfOk result (λ s. Stands (joined s.session samples.now) table.now s.account) }
 {

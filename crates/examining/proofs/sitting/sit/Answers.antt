@@ -6,4 +6,4 @@ pub returns-in-Ok : goal.returns-in-Ok
 returns-in-Ok c = sits c.args.settings c.args.opening _ _ c.open-opened.ensures _ c.in-Ok.is _ c.none.ensures
 
 pub returns-in-Err : goal.returns-in-Err
-returns-in-Err c = refuses c.args.settings c.args.opening _ _ c.open-opened.ensures _ c.in-Err.is
+returns-in-Err c = refuses c.args.settings c.args.opening _ _ c.open-opened.ensures _ c.in-Err.is _ c.none.ensures
