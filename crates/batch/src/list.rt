@@ -16,7 +16,7 @@ pub const OCTETS: usize = 524288;
 pub const NUMBERS: usize = 65544;
 
 // So many calls with their numbers, and what they take of datagrams and waiting numbers, at the front of the rooms.
-#[derive(Drop)]
+#[derive(Clone, Copy)]
 pub struct List {
     pub calls: usize,
     pub words: [u64; WORDS],
