@@ -5,3 +5,4 @@ pub mod Searches
 pub mod Rows
 pub mod Told
 pub mod Cases
+pub mod Eaches

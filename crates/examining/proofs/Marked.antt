@@ -25,7 +25,7 @@ use Rattle.tally.specs.declared.account.Account.{Account}
 use Rattle.tally.specs.declared.account.Full as tally
 use Rattle.base.specs.Pick.{pick}
 use Rattle.model.specs.Open.{opened}
-use Rattle.examining.specs.Marks.{Sits, ran, Notes, note_run, table_run, Rooms, Marks}
+use Rattle.examining.specs.Marks.{just_opened, Sits, ran, Notes, note_run, table_run, Rooms, Marks}
 use Rattle.examining.specs.declared.sitting.Sitting.{Sitting}
 use Rattle.examining.specs.declared.sitting.Unmarked.{Unmarked}
 use Rattle.examining.specs.declared.sitting.Unmarked.TheVariants.{NotRun, Full}
@@ -33,7 +33,7 @@ use Rattle.examining.specs.declared.sitting.Unmarked.TheVariants.{NotRun, Full}
 -- ---- opened
 
 module _ (s : Settings) (opening : ℕ) (answer : Result ℕ SettingsError) (x : Session) (o : Opens (record { answer = answer; session = x }) s opening) where
-  beside : (a : Account) → a ≡ empty → ◌≡◌ {A = Sitting} (record { session = x; account = a }) (record { session = opened s opening; account = empty })
+  beside : (a : Account) → a ≡ empty → ◌≡◌ {A = Sitting} (record { session = x; account = a }) (just_opened s opening)
   beside a h = ap (λ (y : Session). record { session = y; account = a }) o.leaves ∙ ap (λ (b : Account). record { session = opened s opening; account = b }) h
 
   pub sits : (khz : ℕ) → answer ≡ Ok khz → (a : Account) → a ≡ empty → Sits (Ok (record { session = x; account = a })) s opening

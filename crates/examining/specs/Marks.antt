@@ -22,12 +22,16 @@ use Rattle.examining.specs.declared.sitting.Unmarked.{Unmarked}
 use Rattle.examining.specs.declared.sitting.Unmarked.TheVariants.{NotRun, Full}
 use Rattle.examining.specs.declared.sitting.Unseated.{Unseated}
 
--- what Open gives, and nothing noted; where the settings are refused it stands beside the row that applies
+-- what Open gives, and nothing noted
+abbrev pub just_opened : Settings → ℕ → Sitting
+just_opened s opening = record { session = opened s opening; account = empty }
+
+-- that, or the row of the settings that applies, with it beside
 pub record Sits (r : Result Sitting Unseated) (s : Settings) (opening : ℕ) : Type 0 where
-  pub opens : IfOk r (λ x. x ≡ record { session = opened s opening; account = empty })
+  pub opens : IfOk r (λ x. x ≡ just_opened s opening)
   pub accepted : is_ok r ≡ accepts s
   pub refused : IfErr r (λ u. settings_number u.error ≡ number_of (settings_told s))
-  pub closed : IfErr r (λ u. u.closed ≡ record { session = opened s opening; account = empty })
+  pub closed : IfErr r (λ u. u.closed ≡ just_opened s opening)
 
 -- what became of a call: whether it was run, and noted
 abbrev pub ran : Result ⊤ Unmarked → Result ⊤ ListError

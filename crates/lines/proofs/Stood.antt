@@ -1,9 +1,10 @@
 -- A line's first word, and the word at which its reading stops, stand in the line. Assumes nothing.
 use mathlib.Core.List.{List, [], ◌∷◌}
-use Prim.Native.Nat.{ℕ, zero, suc}
-use lib.ListN.{length, drop, get_or}
+use Prim.Native.Nat.{ℕ}
+use lib.ListN.{length, get_or}
 use Rattle.std.specs.Prelude.{Option, Some, None, Ok, Err}
 use Rattle.base.specs.Each.{Each}
+use Rattle.base.proofs.Eaches.{each-drop}
 use Rattle.base.proofs.Picks.{pick-either}
 use Rattle.text.specs.Run.{run, other}
 use Rattle.text.specs.Split.{words}
@@ -26,11 +27,6 @@ module _ (P : List ℕ → Type 0) where
   first-of : (ws : List (List ℕ)) → P [] → Each P ws → P (get_or ws 0 [])
   first-of [] z h = z
   first-of (w ∷ ws) z h = h.0
-
-  each-drop : (n : ℕ) (ws : List (List ℕ)) → Each P ws → Each P (drop n ws)
-  each-drop zero ws h = h
-  each-drop (suc n) [] h = h
-  each-drop (suc n) (w ∷ ws) h = each-drop n ws h.1
 
   options-each : (from to : ℕ) (l : List (Option ℕ)) (ws : List (List ℕ)) → Each P ws → Each P (options_rest from to l ws)
   unfolding options_rest stopped
@@ -61,7 +57,7 @@ module _ (P : List ℕ → Type 0) where
       pick-either (is name Open) _ _ (Each P) (λ _. options-each settings key_count unsaid ws h)
       (λ _.
       read-each (unread (form name).words ws) _ _
-      (options-each buffer_key (form name).keys_end unsaid (options_of name ws) (each-drop (length (form name).words) ws h))
+      (options-each buffer_key (form name).keys_end unsaid (options_of name ws) (each-drop P (length (form name).words) ws h))
       (arguments-each (form name).words ws h))
 
   rest-each : (ws : List (List ℕ)) → Each P ws → Each P (rest_words ws)

@@ -8,6 +8,7 @@ use lib.ListN.{length}
 use lib.IntN.{ℤ, pos, ◌+ℤ◌, ◌-ℤ◌, ◌*ℤ◌, +ℤ_idr}
 use native.Mathlib.Omega.{arith}
 use Rattle.base.specs.Each.{Each}
+use Rattle.base.proofs.Eaches.{each-then}
 use Rattle.sequence.specs.declared.SeqEvent.{SeqEvent}
 use Rattle.sequence.specs.declared.SeqEvent.TheVariants.{InOrder, Gap, Stale, Restart}
 use Rattle.model.specs.Host.{Reply}
@@ -39,8 +40,7 @@ pub record Bounds (n : ℕ) (h : ℤ) (u : Cut) : Type 0 where
   pub spans : Each (Spanned n) u.spans
 
 each-wider : (n m : ℕ) (ps : List Span) → n ≤ m → Each (Spanned n) ps → Each (Spanned m) ps
-each-wider n m [] h e = tt
-each-wider n m (p ∷ ps) h e = (omega (arith, e.0), each-wider n m ps h e.1)
+each-wider n m ps h = each-then (Spanned n) (Spanned m) (λ p e. omega (arith, e, h)) ps
 
 stays : (h : ℤ) → ahead (h -ℤ h) ≡ 0
 stays h = ap ahead (distance-of h h 0 (sym (+ℤ_idr h)))

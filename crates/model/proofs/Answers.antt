@@ -117,25 +117,11 @@ unfolding begin-back or_refusal pick number word
 begin-same (Ok u) = refl
 begin-same (Err r) = refusal_same r tt
 
--- a call that lists streams is told by its answer and them
-listed-apart : {A : Type 0} (answer : A → Answer) (streams : A → Streams) (back : Answer → Streams → A) → ((r : A) → back (answer r) (streams r) ≡ r)
-    → (r s : A) → answer r ≡ answer s → streams r ≡ streams s → r ≡ s
-listed-apart answer streams back same r s h k =
-    sym (same r) ∙ ap (λ (a : Answer). back a (streams r)) h ∙ ap (back (answer s)) k ∙ same s
-
 pass-by : Answer → Streams → PassAnswer
 pass-by a l = pick (eqb (number a) 21) pass.Ready (pick (eqb (number a) 22) pass.SoftStall (pick (eqb (number a) 23) pass.HardStall (pass.Sent l)))
 
 pass-back : Answer → Streams → Result PassAnswer Refusal
 pass-back a l = or_refusal a (pass-by a l)
-
-pass_same : (r : Result PassAnswer Refusal) → pass-back (pass_answer r) (pass_streams r) ≡ r
-unfolding pass-back or_refusal pass-by pick number word
-pass_same (Ok pass.Ready) = refl
-pass_same (Ok pass.SoftStall) = refl
-pass_same (Ok pass.HardStall) = refl
-pass_same (Ok (pass.Sent streams)) = refl
-pass_same (Err r) = refusal_same r _
 
 arrival-by : Answer → Streams → ArrivalAnswer
 arrival-by a l =
@@ -147,15 +133,6 @@ arrival-by a l =
 arrival-back : Answer → Streams → Result ArrivalAnswer Refusal
 arrival-back a l = or_refusal a (arrival-by a l)
 
-arrival-same : (r : Result ArrivalAnswer Refusal) → arrival-back (arrival_answer r) (arrival_streams r) ≡ r
-unfolding arrival-back or_refusal arrival-by pick number word event value
-arrival-same (Ok arrival.Ignored) = refl
-arrival-same (Ok (arrival.Status streams)) = refl
-arrival-same (Ok arrival.Malformed) = refl
-arrival-same (Ok arrival.MalformedLimit) = refl
-arrival-same (Ok (arrival.Iq e m)) = refl
-arrival-same (Err r) = refusal_same r _
-
 take_back : Answer → Result ℕ Refusal
 take_back a = or_refusal a (value a)
 
@@ -166,11 +143,6 @@ take_same (Err r) = refusal_same r _
 
 close-back : Answer → Streams → Result Streams Refusal
 close-back a l = or_refusal a l
-
-close-same : (r : Result Streams Refusal) → close-back (close_answer r) (close_streams r) ≡ r
-unfolding close-back or_refusal pick number word
-close-same (Ok streams) = refl
-close-same (Err r) = refusal_same r _
 
 -- what an answer gives back, with any streams, is its case with these
 pass-case : (l : Streams) (r : Result PassAnswer Refusal) → pass-back (pass_answer r) l ≡ pass_listing l r
@@ -195,30 +167,13 @@ unfolding close-back or_refusal pick number word
 close-case l (Ok streams) = refl
 close-case l (Err r) = refusal_same r _
 
+-- ---- of two answers that are told alike
+
+-- they differ at most in the streams that they list
 told-apart : {A : Type 0} (answer : A → Answer) (back : Answer → Streams → A) (listing : Streams → A → A)
     → ((l : Streams) (r : A) → back (answer r) l ≡ listing l r)
     → (r s : A) → answer r ≡ answer s → (l : Streams) → listing l r ≡ listing l s
 told-apart answer back listing case r s h l = sym (case l r) ∙ ap (λ (a : Answer). back a l) h ∙ case l s
-
-pub settings-apart : (r s : Result ℕ SettingsError) → settings_answer r ≡ settings_answer s → r ≡ s
-settings-apart = apart settings_answer settings-back settings-same
-
-pub begin-apart : (r s : Result ⊤ Refusal) → begin_answer r ≡ begin_answer s → r ≡ s
-begin-apart = apart begin_answer begin-back begin-same
-
-pub pass-apart : (r s : Result PassAnswer Refusal) → pass_answer r ≡ pass_answer s → pass_streams r ≡ pass_streams s → r ≡ s
-pass-apart = listed-apart pass_answer pass_streams pass-back pass_same
-
-pub arrival-apart : (r s : Result ArrivalAnswer Refusal) → arrival_answer r ≡ arrival_answer s → arrival_streams r ≡ arrival_streams s → r ≡ s
-arrival-apart = listed-apart arrival_answer arrival_streams arrival-back arrival-same
-
-pub take-apart : (r s : Result ℕ Refusal) → take_answer r ≡ take_answer s → r ≡ s
-take-apart = apart take_answer take_back take_same
-
-pub close-apart : (r s : Result Streams Refusal) → close_answer r ≡ close_answer s → close_streams r ≡ close_streams s → r ≡ s
-close-apart = listed-apart close_answer close_streams close-back close-same
-
--- ---- without the streams: two answers that are told alike differ at most in the streams that they list
 
 pub pass-told : (r s : Result PassAnswer Refusal) → pass_answer r ≡ pass_answer s → (l : Streams) → pass_listing l r ≡ pass_listing l s
 pass-told = told-apart pass_answer pass-back pass_listing pass-case
@@ -228,3 +183,49 @@ arrival-told = told-apart arrival_answer arrival-back arrival_listing arrival-ca
 
 pub close-told : (r s : Result Streams Refusal) → close_answer r ≡ close_answer s → (l : Streams) → close_listing l r ≡ close_listing l s
 close-told = told-apart close_answer close-back close_listing close-case
+
+-- an answer with its own streams is that answer
+pass-own : (r : Result PassAnswer Refusal) → pass_listing (pass_streams r) r ≡ r
+pass-own (Ok pass.Ready) = refl
+pass-own (Ok pass.SoftStall) = refl
+pass-own (Ok pass.HardStall) = refl
+pass-own (Ok (pass.Sent streams)) = refl
+pass-own (Err r) = refl
+
+arrival-own : (r : Result ArrivalAnswer Refusal) → arrival_listing (arrival_streams r) r ≡ r
+arrival-own (Ok arrival.Ignored) = refl
+arrival-own (Ok (arrival.Status streams)) = refl
+arrival-own (Ok arrival.Malformed) = refl
+arrival-own (Ok arrival.MalformedLimit) = refl
+arrival-own (Ok (arrival.Iq e m)) = refl
+arrival-own (Err r) = refl
+
+close-own : (r : Result Streams Refusal) → close_listing (close_streams r) r ≡ r
+close-own (Ok streams) = refl
+close-own (Err r) = refl
+
+-- so that where they list the same streams they are one answer
+listed-apart : {A : Type 0} (answer : A → Answer) (streams : A → Streams) (listing : Streams → A → A)
+    → ((r s : A) → answer r ≡ answer s → (l : Streams) → listing l r ≡ listing l s)
+    → ((r : A) → listing (streams r) r ≡ r)
+    → (r s : A) → answer r ≡ answer s → streams r ≡ streams s → r ≡ s
+listed-apart answer streams listing told own r s h k =
+    sym (own r) ∙ told r s h (streams r) ∙ ap (λ (l : Streams). listing l s) k ∙ own s
+
+pub settings-apart : (r s : Result ℕ SettingsError) → settings_answer r ≡ settings_answer s → r ≡ s
+settings-apart = apart settings_answer settings-back settings-same
+
+pub begin-apart : (r s : Result ⊤ Refusal) → begin_answer r ≡ begin_answer s → r ≡ s
+begin-apart = apart begin_answer begin-back begin-same
+
+pub pass-apart : (r s : Result PassAnswer Refusal) → pass_answer r ≡ pass_answer s → pass_streams r ≡ pass_streams s → r ≡ s
+pass-apart = listed-apart pass_answer pass_streams pass_listing pass-told pass-own
+
+pub arrival-apart : (r s : Result ArrivalAnswer Refusal) → arrival_answer r ≡ arrival_answer s → arrival_streams r ≡ arrival_streams s → r ≡ s
+arrival-apart = listed-apart arrival_answer arrival_streams arrival_listing arrival-told arrival-own
+
+pub take-apart : (r s : Result ℕ Refusal) → take_answer r ≡ take_answer s → r ≡ s
+take-apart = apart take_answer take_back take_same
+
+pub close-apart : (r s : Result Streams Refusal) → close_answer r ≡ close_answer s → close_streams r ≡ close_streams s → r ≡ s
+close-apart = listed-apart close_answer close_streams close_listing close-told close-own

@@ -5,6 +5,7 @@ use mathlib.Core.List.{List, [], ◌∷◌, ◌++◌, append_assoc}
 use Prim.Native.Nat.{ℕ}
 use lib.ListN.{take, drop, take-append-drop}
 use Rattle.base.specs.Each.{Each}
+use Rattle.base.proofs.Eaches.{each-then}
 use Rattle.text.specs.Part.{Behind, StandsIn}
 use Rattle.text.specs.Split.{grown, parts, not_empty, blank, words}
 
@@ -57,8 +58,7 @@ stands-under : (x : ℕ) (s w : List ℕ) → StandsIn s w → StandsIn (x ∷ s
 stands-under x s w i = record { front = x ∷ i.front; back = i.back; cut = ap (λ (l : List ℕ). x ∷ l) i.cut }
 
 each-under : (x : ℕ) (s : List ℕ) (ws : List (List ℕ)) → Each (StandsIn s) ws → Each (StandsIn (x ∷ s)) ws
-each-under x s [] h = tt
-each-under x s (w ∷ ws) h = (stands-under x s w h.0, each-under x s ws h.1)
+each-under x s = each-then (StandsIn s) (StandsIn (x ∷ s)) (stands-under x s)
 
 -- the first of the parts begins the text, and the others stand in it
 abbrev Cut : List ℕ → List (List ℕ) → Type 0
